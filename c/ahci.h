@@ -646,8 +646,8 @@ uint32_t ahci_hba_write(ahci_hba *hba, uint32_t offset, uint32_t bytes, uint64_t
    GHC.HR leaves PxCLB and PxFB, and doesn't make the disk Active. Doesn't allocate. */
 uint32_t ahci_hba_power_on(ahci_hba *hba, uint64_t *entries);
 
-/* What IDENTIFY DEVICE names the disk from now on: before the driver looks, as a rule. Power-on leaves it. AHCI_BAD_KIND if a character or the rotation rate is none of
-   the above: nothing has changed. Doesn't allocate. */
+/* What IDENTIFY DEVICE names the disk from now on: before the driver looks, as a rule. Its world wide name is made of serial number and model number. Power-on leaves
+   it. AHCI_BAD_KIND if a character or the rotation rate is none of the above: nothing has changed. Doesn't allocate. */
 uint32_t ahci_hba_identity(ahci_hba *hba, const ahci_identity *identity);
 
 /* The disk has a volatile write cache, which is enabled from now on, or has none if `supported` is 0, as a new one. IDENTIFY DEVICE reports it (ACS-3, words 82 and 85), and with it

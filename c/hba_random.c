@@ -272,13 +272,15 @@ static uint32_t lay_list(uint8_t *to, uint32_t moved)
     return shape == NONE ? 0 : shape == ANY_LENGTH && byte() % 4 == 0 ? word() & 0xFFFF : shape == MORE ? count + byte() % 64 : count;
 }
 
-/* The fields of SET FEATURES, SMART and DATA SET MANAGEMENT: mostly those of a subcommand that there is. */
+/* The fields of SET FEATURES, SET MULTIPLE MODE, SMART and DATA SET MANAGEMENT: mostly those of a subcommand that there is. */
 static void asks_more(uint8_t *fis, uint8_t far, uint8_t many)
 {
     static const uint8_t features[] = { 0x03, 0x02, 0x82, 0x05, 0x85, 0x55, 0xAA, 0x66, 0xCC, 0x03 }, smart[] = { 0xD0, 0xD1, 0xD2, 0xD4, 0xD5, 0xD8, 0xD8, 0xD9, 0xDA, 0xD4, 0xD5, 0xD3 },
                          tests[] = { 0, 1, 2, 0x81, 0x82, 0x7F, 6, 3 };
     if (fis[2] == 0xEF)
         fis[3] = features[many % sizeof features], fis[12] = far;
+    if (fis[2] == 0xC6)
+        fis[12] = far % 8 == 7 ? many : (uint8_t)(1u << far % 6 >> 1);
     if (fis[2] == 0x06)
         fis[3] = many % 8 != 7, fis[12] = 1 + far % 2;
     if (fis[2] == 0xB0) {
@@ -293,7 +295,8 @@ static void asks_more(uint8_t *fis, uint8_t far, uint8_t many)
 static void command(void)
 {
     static const uint8_t codes[] = { 0x60, 0x61, 0x60, 0x61, 0x60, 0x61, 0x60, 0x61, 0xC8, 0xCA, 0x25, 0x35, 0x20, 0x20, 0x30, 0x24, 0x34, 0x34, 0xEC, 0x2F, 0x2F, 0x47, 0xEA, 0xE7, 0xEF, 0xA1,
-        0x40, 0x42, 0x27, 0x90, 0xE5, 0xE5, 0xE5, 0xE0, 0xE2, 0xE1, 0xE3, 0xE6, 0x00, 0xB0, 0xB0, 0xB0, 0xB0, 0xB0, 0xEF, 0xEF, 0xEF, 0xE4, 0xE8, 0xE8, 0xE9, 0xEB, 0x06, 0x06, 0x3D };
+        0x40, 0x42, 0x27, 0x90, 0xE5, 0xE5, 0xE5, 0xE0, 0xE2, 0xE1, 0xE3, 0xE6, 0x00, 0xB0, 0xB0, 0xB0, 0xB0, 0xB0, 0xEF, 0xEF, 0xEF, 0xE4, 0xE8, 0xE8, 0xE9, 0xEB, 0x06, 0x06, 0x3D,
+        0xC4, 0xC5, 0x29, 0x39, 0xCE, 0xC6, 0xC6, 0xC6, 0xC4 };
     const uint32_t slot = byte() % 8 == 7 ? 31 : byte() % 6, code = codes[byte() % sizeof codes], bit = 1u << slot;
     const uint8_t far = byte(), lba = far % 32 ? far % 12 : far / 32 + 10, many = byte(), count = many % 128 ? 1 + many % 5 : 0, odd = byte();
     const bool queued = code == 0x60 || code == 0x61, log = code == 0x2F || code == 0x47, is_control = odd % 32 == 30 || (soft == HELD && odd % 4 == 2);
@@ -305,7 +308,7 @@ static void command(void)
         static const uint8_t logs[] = { 0x10, 0x30, 0x10, 0x00, 0x03, 0x04, 0x07, 0x11 };
         const bool is_long = many % 4 == 1 || many % 8 == 5;
         fis[4] = many % 4 == 1 ? 0x30 : logs[many % 8];
-        fis[5] = is_long ? far % 4 : 0;
+        fis[5] = is_long ? far % 8 : 0;
         fis[12] = is_long ? 1 + far / 4 % 3 : many % 16 ? 1 : 2;
     }
     asks_more(fis, far, many);
@@ -639,8 +642,8 @@ int main(int count, char **arguments)
     }
     printf("%lu runs of a controller, with %lu commands done, %lu dropped, %lu trims, and the port halted %lu times: the shadow has seen no difference\n", runs, counted.done, counted.dropped,
         counted.trims, counted.halts);
-    printf("of them %lu blocks by PIO, %lu reads that spilled, %lu writes that were stuck, %lu failures behind the first sector, %lu tags past the depth, and %lu times in Sleep\n", counted.blocks, counted.spilled,
-        counted.stuck, counted.partial, counted.deep, counted.slept);
+    printf("of them %lu blocks by PIO, of which %lu had several sectors, %lu reads that spilled, %lu writes that were stuck, %lu failures behind the first sector, %lu tags past the depth, and %lu times in Sleep\n",
+        counted.blocks, counted.long_blocks, counted.spilled, counted.stuck, counted.partial, counted.deep, counted.slept);
     printf("the link was lost %lu times, and COMINIT came %lu times; the disk was pulled out %lu times, and the driver then tried the link %lu times; and %lu errors of the interface\n", counted.lost,
         counted.found, counted.pulled, counted.tries, counted.broken);
     printf("and the disk took data that are no sectors %lu times\n", counted.stored);

@@ -43,8 +43,9 @@ static uint32_t told; /* the signature that was taken and not posted, as PxSIG h
 static bool failed; /* a queued command has failed, and its log is not read */
 static enum power { ACTIVE, IDLE, STANDBY, SLEEP } power; /* the device's power mode (ACS-3, "Power Management feature set") */
 static bool pulled; /* the disk is pulled out */
-/* What the disk keeps (ACS-3, SET FEATURES, SMART, WRITE BUFFER): the level of APM is 0 if it is disabled; the logs of self-tests are without their checksums. */
-static struct { bool has_cache, cache, ahead, reverts, smart; uint8_t level, tests[AHCI_PAGE_BYTES], more_tests[AHCI_PAGE_BYTES], buffer[AHCI_PAGE_BYTES]; } disk;
+/* What the disk keeps (ACS-3, SET FEATURES, SET MULTIPLE MODE, SMART, WRITE BUFFER): the level of APM is 0 if it is disabled, and so are the sectors of a block of READ and
+   WRITE MULTIPLE; the logs of self-tests are without their checksums. */
+static struct { bool has_cache, cache, ahead, reverts, smart; uint8_t level, mode, per_block, tests[AHCI_PAGE_BYTES], more_tests[AHCI_PAGE_BYTES], buffer[AHCI_PAGE_BYTES]; } disk;
 static uint8_t page[AHCI_PAGE_BYTES]; /* the log of that */
 
 /* A FIS of the device, or none, and whether it is still to be written to the received FIS area. */
@@ -54,7 +55,7 @@ static const struct fis no_fis;
 /* The commands that were read, by slot. Of the list: how many bytes it has, and which run and which of its bytes the data have come to. */
 enum kind { OTHER, QUEUE, READ, WRITE, PAGE, STORE, CONTROL };
 static struct command {
-    bool there, sent, accepted, queued, writes, pio, error_log, long_log, is_smart, resets, has_48_bits;
+    bool there, sent, accepted, queued, writes, pio, multiple, error_log, long_log, is_smart, resets, has_48_bits;
     enum kind kind;
     uint8_t fis[20];
     uint64_t lba, moved, room, used, into;
@@ -64,12 +65,12 @@ static struct command {
 } slots[32];
 
 /* What is read: the command of a slot, up to a place. What is written: an answer, as long as any of it is left; `spills` if its data have no room. And
-   a command whose sectors the queue has moved, or whose answer goes block by block: how many are left, and the FIS behind them. */
+   a command whose sectors the queue has moved, or whose answer goes block by block: how many sectors there are, have moved and are in a block, and the FIS behind them. */
 static struct { bool on, clears; uint32_t slot, phase, entries, piece; uint64_t table, left; } fetch;
 static struct { bool on, counts, spills, signs, unasked; struct fis before, after; uint32_t slot, signature; uint64_t left; } answer;
-static struct { bool on, begun; uint32_t slot, blocks, past; struct fis end; } transfer;
+static struct { bool on, begun; uint32_t slot, sectors, past, per_block; struct fis end; } transfer;
 
-static struct { unsigned long done, halts, dropped, trims, blocks, spilled, stuck, partial, deep, slept, lost, found, pulled, tries, broken, ended, foreign, unasked, stored, left, lost_bytes; } counted;
+static struct { unsigned long done, halts, dropped, trims, blocks, long_blocks, spilled, stuck, partial, deep, slept, lost, found, pulled, tries, broken, ended, foreign, unasked, stored, left, lost_bytes; } counted;
 
 static uint8_t *memory(uint64_t at, uint64_t count)
 {
@@ -133,13 +134,15 @@ static void drop(void)
 /* A reset of the device, of whatever kind: it is what ends Sleep, and then the device is in Standby. */
 static void is_reset(void) { power = power == SLEEP ? STANDBY : power; }
 
-/* A hardware reset or power-on: SET FEATURES is as at first. SMART stays enabled or disabled (ACS-3, SMART ENABLE OPERATIONS). */
+/* A hardware reset or power-on: SET FEATURES and SET MULTIPLE MODE are as at first, with Ultra DMA mode 5. SMART stays enabled or disabled (ACS-3, SMART ENABLE OPERATIONS). */
 static void reverts(void)
 {
     disk.cache = disk.has_cache;
     disk.ahead = true;
     disk.level = 0;
     disk.reverts = false;
+    disk.mode = 0x45;
+    disk.per_block = 0;
 }
 
 /* The link comes up, at the speed that CAP and PxSCTL allow, and the device, which is reset by COMRESET or before it sends COMINIT, sends its signature. */

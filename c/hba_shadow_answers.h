@@ -49,12 +49,12 @@ static struct fis set_bits(uint8_t status, uint8_t error, uint32_t bits)
     return made;
 }
 
-/* The FIS before a block: the host's first block of a write has no I (docs/LAYOUTS.md, "PIO, block by block"). */
-static struct fis pio_setup(bool out, bool is_first, bool is_last)
+/* The FIS before a block of so many sectors: the host's first block of a write has no I (docs/LAYOUTS.md, "PIO, block by block"). */
+static struct fis pio_setup(bool out, bool is_first, bool is_last, uint32_t sectors)
 {
     struct fis made = { { 0x5F, out ? (is_first ? 0 : 0x40) : 0x60, 0x48 }, 20, false };
     made.bytes[15] = !out && is_last ? 0x40 : 0xC0;
-    put(made.bytes + 16, AHCI_SECTOR_BYTES, 2);
+    put(made.bytes + 16, sectors * AHCI_SECTOR_BYTES, 2);
     return made;
 }
 
@@ -110,7 +110,8 @@ static void begins(uint32_t slot, uint64_t bytes, struct fis end)
 {
     transfer.on = transfer.begun = true;
     transfer.slot = slot;
-    transfer.blocks = (uint32_t)(bytes / AHCI_SECTOR_BYTES);
+    transfer.sectors = (uint32_t)(bytes / AHCI_SECTOR_BYTES);
+    transfer.per_block = slots[slot].multiple && disk.per_block ? disk.per_block : 1;
     transfer.past = 0;
     transfer.end = end;
 }
@@ -118,15 +119,17 @@ static void begins(uint32_t slot, uint64_t bytes, struct fis end)
 /* The next block, or what comes behind the last one of a write and of a read that fails: PRDBC and the FIS. */
 static void moves_on(uint32_t slot)
 {
-    const bool out = slots[slot].writes, is_first = transfer.past == 0, is_last = transfer.past + 1 == transfer.blocks && !transfer.end.size;
-    if (transfer.past == transfer.blocks) {
+    const uint32_t rest = transfer.sectors - transfer.past, sectors = rest < transfer.per_block ? rest : transfer.per_block;
+    const bool out = slots[slot].writes, is_first = transfer.past == 0, is_last = sectors == rest && !transfer.end.size;
+    if (!rest) {
         transfer.on = false;
         answers(slot, no_fis, 0, true, transfer.end);
         return;
     }
-    transfer.past++;
+    transfer.past += sectors;
     transfer.on = !is_last;
-    answers(slot, pio_setup(out, is_first, is_last), out ? 0 : AHCI_SECTOR_BYTES, !out, no_fis);
+    counted.long_blocks += sectors > 1;
+    answers(slot, pio_setup(out, is_first, is_last, sectors), out ? 0 : sectors * AHCI_SECTOR_BYTES, !out, no_fis);
 }
 
 /* The answer to a command that has moved its data in the disk. */
@@ -138,7 +141,7 @@ static void delivers(uint32_t slot)
     if (it->kind == QUEUE)
         answers(slot, dma_setup(it, slot), data, false, set_bits(0x40, 0, 1u << slot));
     else if (it->kind == PAGE && it->pio && !it->long_log)
-        answers(slot, pio_setup(false, true, true), data, true, no_fis);
+        answers(slot, pio_setup(false, true, true, 1), data, true, no_fis);
     else if (it->pio)
         begins(slot, it->moved, it->writes ? good() : no_fis);
     else
@@ -184,10 +187,10 @@ static void fails(uint32_t slot, uint8_t error, uint64_t lba, bool is_refused)
         answers(slot, data ? dma_setup(it, slot) : no_fis, data, false, set_bits(0x41, error, 0));
 }
 
-/* Whether the disk aborts a command that is not queued: a queued one is outstanding, or has failed. */
+/* Whether the disk aborts a command that is not queued: a queued one is outstanding, or has failed, or its blocks have no size. */
 static bool is_aborted(uint32_t slot)
 {
-    bool aborted = failed && !slots[slot].error_log;
+    bool aborted = (failed && !slots[slot].error_log) || (slots[slot].multiple && !disk.per_block);
     for (uint32_t other = 0; other < 32; other++)
         aborted = aborted || (other != slot && slots[other].there && slots[other].queued);
     return aborted;
@@ -202,6 +205,7 @@ static struct fis answer_to(const struct command *it)
     case 0xF8: case 0x27: return at_lba(it, 0x40, 0, SECTORS - 1);
     case 0xE7: case 0xEA: case 0xE0: case 0xE1: case 0xE2: case 0xE3: case 0xE6: return fis;
     case 0xEF: return sets_feature(it) ? fis : bad(it, 4, 0);
+    case 0xC6: return sets_blocks(it) ? fis : bad(it, 4, 0);
     case 0xB0:
         if (!is_smart(it))
             return bad(it, 4, 0);

@@ -62,7 +62,7 @@ static uint64_t first_page(uint64_t lba) { return (lba >> 8 & 0xFF) | (lba >> 32
 
 static uint32_t pages_of(uint64_t log)
 {
-    return log == 0 || log == 3 || log == 7 || log == 0x10 || log == 0x11 ? 1 : log == 4 ? 2 : log == 0x30 ? 3 : 0;
+    return log == 0 || log == 3 || log == 7 || log == 0x10 || log == 0x11 ? 1 : log == 4 ? 2 : log == 0x30 ? 7 : 0;
 }
 
 static bool reads_log(uint32_t code, uint64_t lba, uint32_t count)
@@ -88,12 +88,25 @@ static void sums(uint8_t *to)
     to[AHCI_PAGE_BYTES - 1] = (uint8_t)-sum;
 }
 
-/* The page of IDENTIFY DEVICE: with words 47 to 50, 69, 76, 82 to 87, 91, 105, 119, 120 and 169 as the commands and logs are, and as SET FEATURES and SMART have them. */
+/* The world wide name: NAA 3, and 60 bits of serial number and model number, as a number in base 257 (docs/LAYOUTS.md). The first character of a word is its high byte. */
+static uint64_t wide_name(const uint8_t *words)
+{
+    uint64_t name = 0;
+    for (uint32_t at = 20; at < 94; at = at == 39 ? 54 : at + 1)
+        name = 257 * name + words[at ^ 1];
+    return (uint64_t)3 << 60 | name << 4 >> 4;
+}
+
+/* A bit of the mode that is selected, of modes that SET FEATURES counts from one on (ACS-3, words 63 and 88). */
+static uint8_t selected(uint8_t from, uint8_t to) { return disk.mode >= from && disk.mode <= to ? (uint8_t)(1 << (disk.mode - from)) : 0; }
+
+/* The page of IDENTIFY DEVICE: with words 47 to 50, 59, 63, 69, 76, 82 to 88, 91, 105, 108 to 111, 119, 120 and 169 as the commands and logs are, and as SET FEATURES, SET
+   MULTIPLE MODE and SMART have them. */
 static void lays_identify(uint8_t *to)
 {
-    static const uint8_t words[][3] = { { 47, 0, 0x80 }, { 48, 0, 0x40 }, { 49, 0, 0x0F }, { 50, 0, 0x40 },
+    static const uint8_t words[][3] = { { 47, 16, 0x80 }, { 48, 0, 0x40 }, { 49, 0, 0x0F }, { 50, 0, 0x40 },
         { 53, 6, 0 }, { 63, 7, 0 }, { 64, 3, 0 }, { 65, 120, 0 }, { 66, 120, 0 }, { 67, 120, 0 }, { 68, 120, 0 }, { 69, 0, 0x0C },
-        { 76, 6, 5 }, { 82, 0x49, 0x30 }, { 83, 8, 0x74 }, { 84, 0x63, 0x40 }, { 85, 8, 0x30 }, { 86, 0, 0xB4 }, { 87, 0x63, 0x40 }, { 88, 0x3F, 0x20 },
+        { 76, 6, 5 }, { 82, 0x49, 0x30 }, { 83, 8, 0x74 }, { 84, 0x63, 0x41 }, { 85, 8, 0x30 }, { 86, 0, 0xB4 }, { 87, 0x63, 0x41 }, { 88, 0x3F, 0 },
         { 105, 8, 0 }, { 119, 8, 0x40 }, { 120, 8, 0x40 }, { 169, 1, 0 } };
     CHECK(ahci_identify_page(SECTORS, depth, to, AHCI_PAGE_BYTES) == AHCI_OK);
     for (size_t i = 0; i < sizeof words / sizeof *words; i++)
@@ -102,22 +115,60 @@ static void lays_identify(uint8_t *to)
     to[2 * 85] |= (uint8_t)((disk.smart ? 1 : 0) | (disk.cache ? 0x20 : 0) | (disk.ahead ? 0x40 : 0));
     to[2 * 86] |= disk.level ? 8 : 0;
     to[2 * 91] = disk.level;
+    put(to + 2 * 59, disk.per_block ? 0x100u + disk.per_block : 0, 2);
+    to[2 * 63 + 1] = selected(0x20, 0x22);
+    to[2 * 88 + 1] = selected(0x40, 0x45);
+    for (uint32_t i = 0; i < 4; i++)
+        put(to + 2 * (108 + i), wide_name(to) >> 16 * (3 - i), 2);
 }
 
-/* A page of log 30h (ACS-3, "IDENTIFY DEVICE data log"): the pages that there are, the page of IDENTIFY DEVICE, or the capacity. */
+/* The supported capabilities and the current settings of log 30h, of which bit 63 says that they are valid. The capabilities are the bits of words 119, 84, 83, 82 and 69 in turn. */
+static uint64_t capabilities_bits(void)
+{
+    static const uint8_t bits[] = { 2, 7, 8, 11, 12, 16, 20, 22, 23, 25, 27, 28, 35, 36, 63 };
+    uint64_t all = disk.has_cache ? 1u << 24 : 0;
+    for (size_t i = 0; i < sizeof bits; i++)
+        all |= (uint64_t)1 << bits[i];
+    return all;
+}
+
+static uint64_t settings_bits(void)
+{
+    return (uint64_t)1 << 63 | (disk.level ? 1u << 4 : 0) | (disk.smart ? 1u << 8 : 0) | (disk.ahead ? 1u << 9 : 0) | (disk.reverts ? 1u << 13 : 0) | (disk.cache ? 1u << 15 : 0);
+}
+
+/* The pages of log 30h behind the first two, without their headers. */
+static void lays_identify_fields(uint8_t *to, uint64_t number, const uint8_t *words)
+{
+    const uint64_t valid = (uint64_t)1 << 63;
+    switch (number) {
+    case 2: put(to + 8, valid | SECTORS, 8), put(to + 16, valid, 8); break;
+    case 3:
+        put(to + 8, capabilities_bits(), 8);
+        put(to + 24, valid, 8); /* the rotation rate is not told */
+        put(to + 56, wide_name(words), 8), put(to + 64, valid, 8);
+        put(to + 72, valid | 1, 8); /* TRIM */
+        break;
+    case 4: put(to + 8, settings_bits(), 8), put(to + 16, valid | (uint64_t)disk.level << 8, 8); break;
+    case 5: memcpy(to + 8, words + 20, 20), memcpy(to + 32, words + 46, 8), memcpy(to + 48, words + 54, 40); break;
+    default: put(to + 16, valid, 8), put(to + 40, valid, 8), put(to + 48, valid, 8); break; /* neither Security nor Trusted Computing nor Sanitize Device */
+    }
+}
+
+/* A page of log 30h (ACS-3, "IDENTIFY DEVICE data log"): the list of pages 00h to 06h, the page of IDENTIFY DEVICE, or another of those. */
 static void lays_identify_log(uint8_t *to, uint64_t number)
 {
-    to[0] = 1;
-    if (number == 0) {
-        to[8] = 3;
-        to[10] = 1;
-        to[11] = 2;
-    } else if (number == 1) {
-        lays_identify(to);
+    uint8_t words[AHCI_PAGE_BYTES];
+    lays_identify(words);
+    if (number == 1) {
+        memcpy(to, words, sizeof words);
+    } else if (number == 0) {
+        to[0] = 1, to[8] = 7;
+        for (uint8_t i = 1; i < 7; i++)
+            to[9 + i] = i;
     } else {
-        to[2] = 2;
-        to[7] = to[15] = to[23] = 0x80;
-        put(to + 8, SECTORS, 6);
+        to[0] = 1, to[2] = (uint8_t)number, to[7] = 0x80;
+        lays_identify_fields(to, number, words);
     }
 }
 
@@ -180,9 +231,10 @@ static void asks(struct command *it, const uint8_t *fis)
 {
     const uint32_t code = fis[2], count = (uint32_t)little(fis + 12, 2), features = fis[3] | (uint32_t)fis[11] << 8;
     const uint64_t low_lba = little(fis + 4, 3), lba = low_lba | little(fis + 8, 3) << 24;
-    const bool is_short = code == 0x20 || code == 0x30 || code == 0xC8 || code == 0xCA || code == 0x40;
+    const bool is_short = code == 0x20 || code == 0x30 || code == 0xC4 || code == 0xC5 || code == 0xC8 || code == 0xCA || code == 0x40;
+    const bool is_multiple = code == 0x29 || code == 0x39 || code == 0xC4 || code == 0xC5 || code == 0xCE;
     memcpy(it->fis, fis, sizeof it->fis);
-    it->sent = it->accepted = it->queued = it->writes = it->pio = it->error_log = it->long_log = it->is_smart = false;
+    it->sent = it->accepted = it->queued = it->writes = it->pio = it->multiple = it->error_log = it->long_log = it->is_smart = false;
     it->pieces = it->piece = it->sectors = 0;
     it->room = it->used = it->into = 0;
     it->kind = OTHER;
@@ -196,10 +248,11 @@ static void asks(struct command *it, const uint8_t *fis)
         it->writes = code == 0x61;
         it->sectors = features ? features : 65536;
         counted.deep += it->kind == OTHER;
-    } else if (is_short || code == 0x24 || code == 0x25 || code == 0x34 || code == 0x35 || code == 0x3D || code == 0x42) {
-        it->writes = (code & 0xF0) == 0x30 || code == 0xCA;
+    } else if (is_short || is_multiple || code == 0x24 || code == 0x25 || code == 0x34 || code == 0x35 || code == 0x3D || code == 0x42) {
+        it->writes = (code & 0xF0) == 0x30 || code == 0xC5 || code == 0xCA || code == 0xCE;
         it->kind = code == 0x40 || code == 0x42 ? OTHER : it->writes ? WRITE : READ;
-        it->pio = code == 0x20 || code == 0x24 || code == 0x30 || code == 0x34;
+        it->multiple = is_multiple;
+        it->pio = is_multiple || code == 0x20 || code == 0x24 || code == 0x30 || code == 0x34;
         it->sectors = is_short ? (count & 0xFF ? count & 0xFF : 256) : count ? count : 65536;
     } else if (code == 0xEC || is_buffer(code) || reads_log(code, lba, count) || reads_smart(fis)) {
         const bool is_log = reads_log(code, lba, count);
@@ -217,7 +270,7 @@ static void asks(struct command *it, const uint8_t *fis)
         it->pages = code == 0x06 ? count : 1;
     }
     it->has_48_bits = it->kind != CONTROL && (it->queued || (it->kind == PAGE && (code == 0x2F || code == 0x47)) || (it->kind == STORE && code == 0x06) || code == 0x24
-        || code == 0x25 || code == 0x27 || code == 0x34 || code == 0x35 || code == 0x3D || code == 0x42 || code == 0xEA);
+        || code == 0x25 || code == 0x27 || code == 0x29 || code == 0x39 || code == 0xCE || code == 0x34 || code == 0x35 || code == 0x3D || code == 0x42 || code == 0xEA);
     it->moved = it->kind == PAGE || it->kind == STORE ? it->pages * AHCI_PAGE_BYTES : code == 0x40 || code == 0x42 ? 0 : (uint64_t)it->sectors * AHCI_SECTOR_BYTES;
 }
 

@@ -1,8 +1,22 @@
-/* What SET FEATURES, SMART and DATA SET MANAGEMENT do in the disk of the shadow (ACS-3, by the titles of subcommands). */
+/* What SET FEATURES, SET MULTIPLE MODE, SMART and DATA SET MANAGEMENT do in the disk of the shadow (ACS-3, by the titles of subcommands). */
 #include "hba_shadow_commands.h"
 
-/* A transfer mode of SET FEATURES that the page of IDENTIFY DEVICE has: PIO default, PIO 0 to 4, multiword DMA 0 to 2, Ultra DMA 0 to 5. */
-static bool is_mode(uint8_t mode) { return mode < 2 || (mode >= 0x08 && mode <= 0x0C) || (mode >= 0x20 && mode <= 0x22) || (mode >= 0x40 && mode <= 0x45); }
+/* A transfer mode of SET FEATURES that the page of IDENTIFY DEVICE has: PIO default, PIO 0 to 4; multiword DMA 0 to 2, Ultra DMA 0 to 5, of which one is selected. */
+static bool sets_mode(uint8_t mode)
+{
+    const bool is_dma = (mode >= 0x20 && mode <= 0x22) || (mode >= 0x40 && mode <= 0x45);
+    disk.mode = is_dma ? mode : disk.mode;
+    return is_dma || mode < 2 || (mode >= 0x08 && mode <= 0x0C);
+}
+
+/* SET MULTIPLE MODE: a power of two up to 16 sectors, or none, and then READ and WRITE MULTIPLE are disabled. */
+static bool sets_blocks(const struct command *it)
+{
+    const uint8_t count = it->fis[12];
+    const bool is_good = count <= 16 && (count & (count - 1)) == 0;
+    disk.per_block = is_good ? count : disk.per_block;
+    return is_good;
+}
 
 /* SET FEATURES: whether the subcommand is carried out. Without a volatile write cache there is none to enable or disable. */
 static bool sets_feature(const struct command *it)
@@ -10,7 +24,7 @@ static bool sets_feature(const struct command *it)
     const uint8_t count = it->fis[12];
     switch (it->fis[3]) {
     case 0x02: case 0x82: disk.cache = disk.has_cache && it->fis[3] == 0x02; return disk.has_cache;
-    case 0x03: return is_mode(count);
+    case 0x03: return sets_mode(count);
     case 0x05: disk.level = count && count != 0xFF ? count : disk.level; return count && count != 0xFF;
     case 0x85: disk.level = 0; return true;
     case 0x55: case 0xAA: disk.ahead = it->fis[3] == 0xAA; return true;

@@ -5,6 +5,7 @@
 
 #define H2D 0x27
 #define WRITE_DMA_FUA_EXT 0x3D
+#define WRITE_MULTIPLE_FUA_EXT 0xCE
 
 /* Where a command has the number of its sectors. */
 enum place {
@@ -24,18 +25,23 @@ static enum place place_of(uint8_t code, bool *writes) {
         return PLACE_QUEUE;
     case 0x34: /* WRITE SECTOR(S) EXT */
     case 0x35: /* WRITE DMA EXT */
+    case 0x39: /* WRITE MULTIPLE EXT */
     case WRITE_DMA_FUA_EXT:
+    case WRITE_MULTIPLE_FUA_EXT:
         *writes = true;
         return PLACE_LONG;
     case 0x24: /* READ SECTOR(S) EXT */
     case 0x25: /* READ DMA EXT */
+    case 0x29: /* READ MULTIPLE EXT */
     case 0x42: /* READ VERIFY SECTOR(S) EXT */
         return PLACE_LONG;
     case 0x30: /* WRITE SECTOR(S) */
+    case 0xC5: /* WRITE MULTIPLE */
     case 0xCA: /* WRITE DMA */
         *writes = true;
         return PLACE_SHORT;
     case 0x20: /* READ SECTOR(S) */
+    case 0xC4: /* READ MULTIPLE */
     case 0xC8: /* READ DMA */
     case 0x40: /* READ VERIFY SECTOR(S) */
         return PLACE_SHORT;
@@ -66,7 +72,7 @@ struct command command_of(const uint8_t fis[COMMAND_FIS_BYTES]) {
         command.sectors = count_of(it.features, 65536);
         break;
     case PLACE_LONG:
-        command.has_fua = it.command == WRITE_DMA_FUA_EXT;
+        command.has_fua = it.command == WRITE_DMA_FUA_EXT || it.command == WRITE_MULTIPLE_FUA_EXT;
         command.sectors = count_of(it.count, 65536);
         break;
     case PLACE_SHORT:

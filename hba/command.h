@@ -14,7 +14,7 @@ struct command {
     bool reads_error_log; /* READ LOG EXT of log 10h, by PIO or by DMA */
     bool queued;      /* READ or WRITE FPDMA QUEUED */
     bool writes;      /* it writes the sectors that it names */
-    bool has_fua;     /* WRITE FPDMA QUEUED with FUA */
+    bool has_fua;     /* WRITE FPDMA QUEUED with FUA, WRITE DMA FUA EXT, WRITE MULTIPLE FUA EXT */
     uint64_t lba;     /* the sectors that it names; none for other commands */
     uint32_t sectors;
 };

@@ -33,6 +33,7 @@ static const struct {
     {"SET MULTIPLE MODE", 0xC6},
     {"READ DMA", 0xC8},
     {"WRITE DMA", 0xCA},
+    {"WRITE MULTIPLE FUA EXT", 0xCE},
     {"STANDBY IMMEDIATE", 0xE0},
     {"IDLE IMMEDIATE", 0xE1},
     {"STANDBY", 0xE2},

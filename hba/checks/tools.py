@@ -15,6 +15,17 @@ OPTIONS = ["--write-cache", "--model", MODEL, "--serial", SERIAL, "--firmware", 
 DATA = pattern(1 << 20, "tools")
 
 
+def wide_name(serial: str, model: str) -> int:
+    """The world wide name: NAA 3, and 60 bits of a number in base 257 (docs/LAYOUTS.md)."""
+    name = 0
+    for character in (serial.ljust(20) + model.ljust(40)).encode():
+        name = (257 * name + character) % (1 << 60)
+    return 3 << 60 | name
+
+
+NAME = wide_name(SERIAL, MODEL)
+
+
 class Run(NamedTuple):
     """A tool's run in the guest: what it printed, what Linux wrote meanwhile, and its status."""
     lines: List[str]
@@ -58,11 +69,11 @@ KERNEL = {"cache_0": [r"sd 0:0:0:0: \[sda\] Write cache: disabled, .*"], "cache_
 FILE_SYSTEMS = [r"init \(1\): drop_caches: 3", r"(EXT4-fs|XFS) \(sda\): (mounted filesystem|unmounting|Unmounting|Mounting|Ending clean mount).*", r"SGI XFS with .*"]
 
 NAMED = [rf"Device Model:     {MODEL}", rf"Serial Number:    {SERIAL}", rf"Firmware Version: {FIRMWARE}", rf"User Capacity:    {BYTES:,} bytes \[536 MB\]", r"Sector Size:      512 bytes logical/physical",
-         rf"Rotation Rate:    {RPM} rpm", r"TRIM Command:     Available", r"ATA Version is:   ACS-3.*"]
+         rf"Rotation Rate:    {RPM} rpm", r"TRIM Command:     Available", r"ATA Version is:   ACS-3.*", rf"LU WWN Device Id: 3 {NAME >> 36 & 0xFFFFFF:06x} {NAME & (1 << 36) - 1:09x}"]
 PASSED = r"SMART overall-health self-assessment test result: PASSED"
 HEALTHY = [*NAMED, PASSED, r"APM feature is:   Disabled", r"Rd look-ahead is: Enabled", r"Write cache is:   Enabled", r"SMART support is: Enabled", r"General Purpose Log Directory Version 1", r"No Errors Logged",
            r"0x00       GPL,SL  R/O      1  Log Directory", r"0x04       GPL     R/O      2  Device Statistics log", r"0x06           SL  R/O      1  SMART self-test log", r"0x07       GPL     R/O      1  Extended self-test log",
-           r"0x11       GPL     R/O      1  SATA Phy Event Counters log", r"0x30       GPL     R/O      3  IDENTIFY DEVICE data log", r"0x01  0x010  4               0  ---  Power-on Hours",
+           r"0x11       GPL     R/O      1  SATA Phy Event Counters log", r"0x30       GPL     R/O      7  IDENTIFY DEVICE data log", r"0x01  0x010  4               0  ---  Power-on Hours",
            r"0x0001  2            0  Command failed due to ICRC error", r"SMART Extended Self-test Log Version: 1 \(1 sectors\)"]
 SHORT, LONG = (rf"# +{{}}  {it} offline +Completed without error +00% +0 +-" for it in ("Short", "Extended"))
 
@@ -72,8 +83,9 @@ def features(cache: str = "*", ahead: str = "*", apm: str = "") -> List[str]:
     has = [("*", "SMART feature set"), ("*", "Power Management feature set"), (cache, "Write cache"), (ahead, "Look-ahead"), ("*", "WRITE_BUFFER command"), ("*", "READ_BUFFER command"),
            ("*" if apm else "", "Advanced Power Management feature set"), ("*", "48-bit Address feature set"), ("*", "Mandatory FLUSH_CACHE"), ("*", "FLUSH_CACHE_EXT"), ("*", "SMART error logging"),
            ("*", "SMART self-test"), ("*", "General Purpose Logging feature set"), ("*", "{READ,WRITE}_DMA_EXT_GPL commands"), ("*", "Gen1 signaling speed (1.5Gb/s)"), ("*", "Gen2 signaling speed (3.0Gb/s)"),
-           ("*", "Native Command Queueing (NCQ)"), ("*", "Phy event counters"), ("*", "WRITE BUFFER DMA command"), ("*", "READ BUFFER DMA command"), ("*", "Data Set Management TRIM supported (limit 8 blocks)")]
+           ("*", "Native Command Queueing (NCQ)"), ("*", "Phy event counters"), ("*", "64-bit World wide name"), ("*", "WRITE_{DMA|MULTIPLE}_FUA_EXT"), ("*", "WRITE BUFFER DMA command"), ("*", "READ BUFFER DMA command"), ("*", "Data Set Management TRIM supported (limit 8 blocks)")]
     return [rf"Model Number:       {MODEL}", rf"Serial Number:      {SERIAL}", rf"Firmware Revision:  {FIRMWARE}", rf"LBA    user addressable sectors: +{SECTORS}", rf"LBA48  user addressable sectors: +{SECTORS}",
+            r"R/W multiple sector transfer: Max = 16\tCurrent = \?", rf"Logical Unit WWN Device Identifier: {NAME:016x}",
             r"Logical/Physical Sector size:           512 bytes", rf"Nominal Media Rotation Rate: {RPM}", r"Queue depth: 32", rf"Advanced power management level: {apm or 'disabled'}",
             *((r"\*\t" if sign else "") + re.escape(name) for sign, name in has)]
 
@@ -154,13 +166,17 @@ def pages_right(runs: Dict[str, Run]) -> None:
     expect(counted == [SECTORS, SECTORS] and words[217] == RPM, f"sectors {counted}, rotation rate {words[217]}")
     pages = {name: bytes_of(run) for name, run in runs.items() if name.startswith("log_")}
     sizes = [int.from_bytes(pages["log_0x00"][2 * it:2 * it + 2], "little") for it in range(256)]
-    expect({it: size for it, size in enumerate(sizes) if size} == {0x00: 1, 0x03: 1, 0x04: 2, 0x07: 1, 0x10: 1, 0x11: 1, 0x30: 3}, f"log 00h is {sizes}")
+    expect({it: size for it, size in enumerate(sizes) if size} == {0x00: 1, 0x03: 1, 0x04: 2, 0x07: 1, 0x10: 1, 0x11: 1, 0x30: 7}, f"log 00h is {sizes}")
     unsound = [name for name in ("log_0x03", "log_0x07", "log_0x10", "log_0x11") if sum(pages[name]) % 256]
     expect(not unsound, f"the sums of {unsound} are wrong")
     expect(pages["log_0x10"][0] & 0x80 == 0x80, "log 10h names a failed command, and none has failed")
-    expect(pages["log_0x30"][8:12] == b"\x03\x00\x01\x02" and pages["log_0x04"][8:11] == b"\x02\x00\x01", "the lists of pages are wrong")
+    expect(pages["log_0x30"][8:17] == bytes([7, *range(7), 0]) and pages["log_0x04"][8:11] == b"\x02\x00\x01", "the lists of pages are wrong")
     expect(pages["log_0x30_1"] == b"".join(it.to_bytes(2, "little") for it in words), "page 01h of log 30h is not what IDENTIFY DEVICE reads")
     expect(pages["log_0x30_2"][8:16] == (1 << 63 | SECTORS).to_bytes(8, "little"), "page 02h of log 30h has another capacity")
+    expect(all(pages[f"log_0x30_{it}"][:8] == (1 << 63 | it << 16 | 1).to_bytes(8, "little") for it in range(2, 7)), "the header of a page of log 30h is wrong")
+    expect(sum(words[108 + it] << 48 - 16 * it for it in range(4)) == NAME and pages["log_0x30_3"][56:64] == NAME.to_bytes(8, "little"), "the world wide name is another")
+    same = [(8, 10, 10), (32, 23, 4), (48, 27, 20)]
+    expect(all(pages["log_0x30_5"][at:at + 2 * count] == pages["log_0x30_1"][2 * word:2 * (word + count)] for at, word, count in same), "page 05h of log 30h has other texts than IDENTIFY DEVICE")
 
 
 def sectors_right(runs: Dict[str, Run]) -> None:

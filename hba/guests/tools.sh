@@ -83,7 +83,7 @@ for it in 0x00 0x03 0x04 0x07 0x10 0x11 0x30; do
     run "log_$it" sg_sat_read_gplog -H -L $it /dev/sda
 done
 run log_0x04_1 sg_sat_read_gplog -H -L 0x04 -p 1 /dev/sda
-for it in 1 2; do
+for it in 1 2 3 4 5 6; do
     run "log_0x30_$it" sg_sat_read_gplog -d -H -L 0x30 -p $it /dev/sda
 done
 run phy sg_sat_phy_event /dev/sda

@@ -11,7 +11,7 @@ use Rattle.ahci_hba.specs.Delivering.{answer_with, bytes_for, delivered, dma_ans
 use Rattle.hba_command.specs.Pages.{controller_page}
 use Rattle.hba_command.specs.declared.protocol.Protocol.{Protocol}
 use Rattle.hba_command.specs.declared.protocol.Protocol.TheVariants.{Pio}
-use Rattle.hba_command.specs.declared.protocol.Protocol.TheVariants.{Pio as ByPio, Dma as ByDma}
+use Rattle.hba_command.specs.declared.protocol.Protocol.TheVariants.{Pio as ByPio, Multiple, Dma as ByDma}
 use Rattle.hba_command.specs.Action.{action_of}
 use Rattle.hba_command.specs.declared.action.Action.{Action}
 use Rattle.hba_command.specs.declared.action.Action.TheVariants as action
@@ -48,6 +48,7 @@ delivers h new slot t w list bytes a was served given acts made =
     idle_or_not h slot list bytes (action.Queue q) = refl
     idle_or_not h slot list bytes (action.Sectors write span ByDma) = either h write slot list bytes (512 * span.sectors)
     idle_or_not h slot list bytes (action.Sectors write span ByPio) = refl
+    idle_or_not h slot list bytes (action.Sectors write span Multiple) = refl
     idle_or_not h slot list bytes (action.Page page p) = refl
     idle_or_not h slot list bytes (action.Store s p) = refl
     idle_or_not h slot list bytes (action.Flush a) = refl

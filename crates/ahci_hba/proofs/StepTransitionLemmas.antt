@@ -18,9 +18,8 @@ use Rattle.hba_command.specs.declared.log.Log.{Log}
 use Rattle.hba_command.specs.declared.log.Log.TheVariants.{Pages, QueuedError}
 use Rattle.hba_command.specs.declared.page.Page.TheVariants as page
 use Rattle.hba_command.specs.declared.protocol.Protocol.{Protocol}
-use Rattle.hba_command.specs.declared.protocol.Protocol.TheVariants.{Pio as ByPio, Dma as ByDma}
+use Rattle.hba_command.specs.declared.protocol.Protocol.TheVariants.{Pio as ByPio, Multiple, Dma as ByDma}
 use Rattle.hba_command.specs.declared.store.Store.{Store as Stores}
-use Rattle.hba_memory.specs.Blocks.{block_list}
 use Rattle.hba_memory.specs.Posting.{PostingView}
 use Rattle.hba_memory.specs.Runs.{placed}
 use Rattle.hba_regs.specs.Receiving.{after_srst_cleared, moved}
@@ -31,7 +30,7 @@ use Rattle.ncq_journal.specs.History.{History}
 use Rattle.ahci_port.specs.PortView.{PortView, sectors_in}
 use Rattle.ahci_port.specs.Steps.{answer_to}
 use Rattle.ahci_port.specs.declared.step.Stepped.{Stepped}
-use Rattle.ahci_hba.specs.Delivering.{answer_with, answered, block_in, block_out, block_posting, bytes_for, closing, dma_answer, done, finishing, fis_ending, going_on, only_before, page_posting, queued_answer, queued_posting, read_answer, read_posting, received_put, setup_put}
+use Rattle.ahci_hba.specs.Delivering.{answer_with, answered, block_in, block_out, block_posting, bytes_for, closing, dma_answer, done, finishing, fis_ending, going_on, only_before, page_answer, page_posting, queued_answer, queued_posting, read_answer, read_posting, received_put, setup_put}
 use Rattle.ahci_hba.specs.Dropping.{is_spent, port_after}
 use Rattle.ahci_hba.specs.Executing.{Executes, Performs, aborted, disk_page_given, first_missing, is_aborted, log_given, long_log_in, paged, pages_given, replied, reply_fis}
 use Rattle.ahci_hba.specs.Failing.{Fails, concluded, ended_at, ended_with, ending_fis, failed_posting, moved_before, moved_sectors, queue_failed, read_failed, sectors_before, sectors_ended, sectors_failed, sectors_of, vacated}
@@ -44,7 +43,7 @@ use Rattle.ahci_hba.specs.Recovering.{Recovers, error_log_in, error_page}
 use Rattle.ahci_hba.specs.Resetting.{control_in, controlled, released, sent_by, signature, signing, signing_for}
 use Rattle.ahci_hba.specs.Stepping.{IsTaken}
 use Rattle.ahci_hba.specs.Storing.{content_in, store_fis, stored, taken_by}
-use Rattle.ahci_hba.specs.Transfer.{TransferView, fits, has_interrupt, is_last, moved_to, next_block}
+use Rattle.ahci_hba.specs.Transfer.{TransferView, fits, has_interrupt, is_last, moved_to, next_block, next_list, next_sectors}
 use Rattle.ahci_hba.specs.Transitions.{Takes, SelectCmd, SrstCleared, SrstSet}
 use Rattle.ahci_hba.specs.declared.ending.Ending.{Ending}
 use Rattle.ahci_hba.specs.declared.last_fis.LastFis.TheVariants as last_fis
@@ -110,6 +109,7 @@ answers_with : (h : HbaView) (slot : ℕ) (list : List PrdEntry) (bytes : List �
 answers_with h slot list bytes (Queue q) = completes h slot list bytes (if q.write then 0 else 512 * q.sectors)
 answers_with h slot list bytes (Sectors write span ByDma) = closes_or_reads h slot write list bytes (512 * span.sectors)
 answers_with h slot list bytes (Sectors write span ByPio) = none h.registers
+answers_with h slot list bytes (Sectors write span Multiple) = none h.registers
 answers_with h slot list bytes (Page page p) = closes h slot 0 done
 answers_with h slot list bytes (Store s p) = closes h slot 0 done
 answers_with h slot list bytes (Flush a) = closes h slot 0 done
@@ -128,7 +128,7 @@ moves_in h t = by (is_last t)
     posted = block_posting h.registers t 0x40
 
     end : Ending
-    end = ending_of (fits 512 (block_list t.rest)) (last_fis.Pio t.slot)
+    end = ending_of (fits (512 * next_sectors t) (next_list t)) (last_fis.Pio t.slot)
 
     by : (b : Bool) → Takes h.registers (if b then answering h posted end else blocking h (block_posting h.registers t 0xC0) (next_block t)).registers
     by true = answers h posted end
@@ -137,9 +137,9 @@ moves_in h t = by (is_last t)
 goes_on : (h : HbaView) (t : TransferView) → Takes h.registers (going_on h t).registers
 goes_on h t = by (nat_eq t.left 0) t.write
   where
-    by : (b write : Bool) → Takes h.registers (if b then finishing h t t.finish else if write then block_out h (next_block t) else block_in h t).registers
+    by : (b write : Bool) → Takes h.registers (if b then finishing h t t.finish else if write then block_out h (next_sectors t) (next_block t) else block_in h t).registers
     by true write = finishes h t t.finish
-    by false true = blocks h (only_before (setup_put h.registers false (has_interrupt (next_block t)) 0xC0)) (next_block t)
+    by false true = blocks h (only_before (setup_put h.registers false (has_interrupt (next_block t)) 0xC0 (next_sectors t))) (next_block t)
     by false false = moves_in h t
 
 delivers : (h : HbaView) (w : WorkView) → Takes h.registers (answered h w).registers
@@ -156,15 +156,20 @@ delivers h (Posting p e) = none h.registers
 
 -- ---- commands that are not queued
 
-gives_page : (h : HbaView) (slot : ℕ) (p : Protocol) (list : List PrdEntry) (page : List ℕ) → Takes h.registers (paged h slot p list page).registers
-gives_page h slot ByPio list page =
+sends_page : (h : HbaView) (slot : ℕ) (list : List PrdEntry) (page : List ℕ) → Takes h.registers (page_answer (vacated h slot) slot list page).registers
+sends_page h slot list page =
     answers (vacated h slot) (page_posting h.registers slot (placed list page) (moved_to 512 list)) (ending_of (fits 512 list) (last_fis.Pio slot))
+
+gives_page : (h : HbaView) (slot : ℕ) (p : Protocol) (list : List PrdEntry) (page : List ℕ) → Takes h.registers (paged h slot p list page).registers
+gives_page h slot ByPio list page = sends_page h slot list page
+gives_page h slot Multiple list page = sends_page h slot list page
 gives_page h slot ByDma list page = reads (vacated h slot) slot list page 512 done
 
 moves_before : (h : HbaView) (slot : ℕ) (p : Protocol) (list : List PrdEntry) (bytes : List ℕ) (n : ℕ) (fis : D2hFields)
     → Takes h.registers (moved_before h slot p list bytes n fis).registers
 moves_before h slot ByDma list bytes n fis = reads h slot list bytes (512 * n) fis
 moves_before h slot ByPio list bytes n fis = none h.registers
+moves_before h slot Multiple list bytes n fis = none h.registers
 
 reads_failing : (h : HbaView) (slot : ℕ) (p : Protocol) (list : List PrdEntry) (first n : ℕ) (fis : D2hFields) → Takes h.registers (read_failed h slot p list first n fis).registers
 reads_failing h slot p list first n fis = by (nat_eq n 0)
@@ -185,6 +190,7 @@ fails_sectors h slot list write span p error lba = ends_sectors h slot list writ
 
 gives_pages : (h : HbaView) (slot : ℕ) (p : Protocol) (list : List PrdEntry) (bytes : List ℕ) (n : ℕ) → Takes h.registers (pages_given h slot p list bytes n).registers
 gives_pages h slot ByPio list bytes n = none h.registers
+gives_pages h slot Multiple list bytes n = none h.registers
 gives_pages h slot ByDma list bytes n = reads (vacated h slot) slot list bytes (512 * n) done
 
 gives_log : (h : HbaView) (slot : ℕ) (p : Protocol) (list : List PrdEntry) (log : Log) → Takes h.registers (log_given h slot p list log).registers
@@ -200,6 +206,7 @@ gives_disk_page h slot p list page = by (allows_page h.device page)
 
 takes_blocks : (h : HbaView) (slot : ℕ) (p : Protocol) (n : ℕ) (fis : D2hFields) → Takes h.registers (taken_by h slot p n fis).registers
 takes_blocks h slot ByPio n fis = none h.registers
+takes_blocks h slot Multiple n fis = none h.registers
 takes_blocks h slot ByDma n fis = closes h slot (512 * n) fis
 
 stores : (h : HbaView) (slot : ℕ) (s : Stores) (p : Protocol) (bytes : List ℕ) → Takes h.registers (stored h slot s p bytes).registers

@@ -4,12 +4,14 @@ use Rattle.std.specs.Int.{byte_at}
 use Rattle.sata_fis.specs.Encoding.{d2h_bytes, pio_setup_bytes}
 use Rattle.sata_fis.specs.Fields.{D2hFields, PioSetupFields}
 use Rattle.hba_command.specs.Action.{action_of}
+use Rattle.hba_command.specs.MultipleMode.{block_sectors}
 use Rattle.hba_command.specs.declared.action.Action.{Action}
 use Rattle.hba_command.specs.declared.action.Action.TheVariants as action
 use Rattle.hba_command.specs.declared.entry.PrdEntry.{PrdEntry}
-use Rattle.hba_command.specs.declared.protocol.Protocol.TheVariants.{Pio as ByPio, Dma as ByDma}
+use Rattle.hba_command.specs.declared.protocol.Protocol.{Protocol}
+use Rattle.hba_command.specs.declared.protocol.Protocol.TheVariants.{Dma as ByDma}
 use Rattle.hba_command.specs.declared.task.Task.{Task}
-use Rattle.hba_memory.specs.Blocks.{BlocksView, block_list, block_puts}
+use Rattle.hba_memory.specs.Blocks.{BlocksView, block_puts}
 use Rattle.hba_memory.specs.Posting.{PostingView}
 use Rattle.hba_memory.specs.Reading.{is_write}
 use Rattle.hba_memory.specs.Runs.{Put, placed}
@@ -21,7 +23,7 @@ use Rattle.ahci_table.specs.Window.{WindowState}
 use Rattle.ahci_hba.specs.HbaView.{HbaView, WorkView, Idle, Served, Pio}
 use Rattle.ahci_hba.specs.Moving.{answering, blocking, ending_of}
 use Rattle.ahci_hba.specs.Queueing.{fis_put}
-use Rattle.ahci_hba.specs.Transfer.{TransferView, first_block, fits, has_interrupt, is_last, moved_so_far, moved_to, next_block, sends_block}
+use Rattle.ahci_hba.specs.Transfer.{TransferView, first_block, fits, has_interrupt, is_last, moved_so_far, moved_to, next_block, next_list, next_sectors, sends_block}
 use Rattle.ahci_hba.specs.declared.last_fis.LastFis.{LastFis}
 use Rattle.ahci_hba.specs.declared.last_fis.LastFis.TheVariants as last_fis
 
@@ -48,12 +50,12 @@ done = d2h_fis 0x40 0 0 0
 abbrev pub fis_ending : ℕ → D2hFields → LastFis
 fis_ending slot fis = last_fis.Register fis.status fis.error true slot
 
--- PIO Setup FISes: status 48h is DRDY with DRQ; a block of 512 bytes comes, or is asked for
-abbrev pub setup_fis : (d i : Bool) → ℕ → PioSetupFields
-setup_fis d i e_status = record { i = i; d = d; status = 0x48; error = 0; lba = 0; device = 0; count = 0; e_status = e_status; bytes = 512 }
+-- PIO Setup FISes: status 48h is DRDY with DRQ; a block of so many sectors comes, or is asked for
+abbrev pub setup_fis : (d i : Bool) → (e_status sectors : ℕ) → PioSetupFields
+setup_fis d i e_status n = record { i = i; d = d; status = 0x48; error = 0; lba = 0; device = 0; count = 0; e_status = e_status; bytes = 512 * n }
 
-abbrev pub setup_put : HbaState → (d i : Bool) → ℕ → List Put
-setup_put s d i e_status = received_put s 0x20 (pio_setup_bytes (setup_fis d i e_status))
+abbrev pub setup_put : HbaState → (d i : Bool) → (e_status sectors : ℕ) → List Put
+setup_put s d i e_status n = received_put s 0x20 (pio_setup_bytes (setup_fis d i e_status n))
 
 -- a queued read: a DMA Setup FIS, the data, and a Set Device Bits FIS
 abbrev pub queued_posting : HbaState → PortView → List Put → PostingView
@@ -80,16 +82,20 @@ closing h slot n fis = answering h (read_posting h.registers slot [] n fis) (end
 
 -- a page by PIO: a PIO Setup FIS, the page, and PRDBC
 abbrev pub page_posting : HbaState → ℕ → List Put → ℕ → PostingView
-page_posting s slot content moved = record { before = setup_put s true true 0x40; content = content; count = count_put s slot moved; after = [] }
+page_posting s slot content moved = record { before = setup_put s true true 0x40 1; content = content; count = count_put s slot moved; after = [] }
 
 abbrev pub page_answer : HbaView → ℕ → List PrdEntry → List ℕ → HbaView
 page_answer h slot list page =
     answering h (page_posting h.registers slot (placed list page) (moved_to 512 list)) (ending_of (fits 512 list) (last_fis.Pio slot))
 
--- a transfer by PIO begins, of so many blocks
-abbrev pub beginning : HbaView → ℕ → Bool → ℕ → BlocksView → Option D2hFields → HbaView
-beginning h slot write n rest finish =
-    record h { work = Pio (first_block slot write n rest finish) }
+-- a transfer by PIO begins, of so many sectors in blocks of at most so many
+abbrev pub beginning : HbaView → ℕ → Bool → (n most : ℕ) → BlocksView → Option D2hFields → HbaView
+beginning h slot write n most rest finish =
+    record h { work = Pio (first_block slot write n most rest finish) }
+
+-- the same for a command that moves its data so: of READ and WRITE MULTIPLE a block has what SET MULTIPLE MODE has set
+abbrev pub beginning_by : HbaView → ℕ → Protocol → Bool → ℕ → BlocksView → Option D2hFields → HbaView
+beginning_by h slot p write n rest finish = beginning h slot write n (block_sectors h.device.multiple p) rest finish
 
 -- the bytes that go to the driver: those of a read, none of a write
 abbrev pub bytes_for : Task → WindowState → List ℕ
@@ -110,12 +116,14 @@ dma_answer h slot write list bytes n = if write then closing h slot n done else 
 abbrev pub finish_of : Bool → Option D2hFields
 finish_of write = if write then Some done else None
 
+abbrev pub sectors_answer : HbaView → ℕ → Protocol → Bool → List PrdEntry → List ℕ → (sectors : ℕ) → HbaView
+sectors_answer h slot ByDma write list bytes n = dma_answer h slot write list bytes (512 * n)
+sectors_answer h slot p write list bytes n = beginning_by h slot p write n (record { list = list; bytes = bytes }) (finish_of write)
+
 -- the answer to a command that the port has done, with a read's bytes: it does queued ones and those that move sectors
 abbrev pub answer_with : HbaView → ℕ → List PrdEntry → List ℕ → Action → HbaView
 answer_with h slot list bytes (action.Queue q) = queue_answer h slot q.write list bytes (512 * q.sectors)
-answer_with h slot list bytes (action.Sectors write span ByDma) = dma_answer h slot write list bytes (512 * span.sectors)
-answer_with h slot list bytes (action.Sectors write span ByPio) =
-    beginning h slot write span.sectors (record { list = list; bytes = bytes }) (finish_of write)
+answer_with h slot list bytes (action.Sectors write span p) = sectors_answer h slot p write list bytes span.sectors
 answer_with h slot list bytes (action.Page page p) = closing h slot 0 done
 answer_with h slot list bytes (action.Store s p) = closing h slot 0 done
 answer_with h slot list bytes (action.Flush a) = closing h slot 0 done
@@ -123,21 +131,26 @@ answer_with h slot list bytes (action.Reply r) = closing h slot 0 done
 answer_with h slot list bytes (action.Control reset) = closing h slot 0 done
 answer_with h slot list bytes action.Abort = closing h slot 0 done
 
--- a block of a write, which the transfer has behind it then
+-- a block of a write, of so many sectors, which the transfer has behind it then
 abbrev pub only_before : List Put → PostingView
 only_before puts = record { before = puts; content = []; count = []; after = [] }
 
-abbrev pub block_out : HbaView → TransferView → HbaView
-block_out h t = blocking h (only_before (setup_put h.registers false (has_interrupt t) 0xC0)) t
+abbrev pub block_out : HbaView → (sectors : ℕ) → TransferView → HbaView
+block_out h n t = blocking h (only_before (setup_put h.registers false (has_interrupt t) 0xC0 n)) t
 
 -- a block to the driver: a PIO Setup FIS, the block, and PRDBC with the bytes so far
 abbrev pub block_posting : HbaState → TransferView → ℕ → PostingView
 block_posting s t e_status =
-    record { before = setup_put s true true e_status; content = block_puts t.rest; count = count_put s t.slot (moved_so_far t); after = [] }
+    record {
+      before = setup_put s true true e_status (next_sectors t);
+      content = block_puts t.rest (next_sectors t);
+      count = count_put s t.slot (moved_so_far t);
+      after = [];
+    }
 
 abbrev pub block_in : HbaView → TransferView → HbaView
 block_in h t =
-    if is_last t then answering h (block_posting h.registers t 0x40) (ending_of (fits 512 (block_list t.rest)) (last_fis.Pio t.slot))
+    if is_last t then answering h (block_posting h.registers t 0x40) (ending_of (fits (512 * next_sectors t) (next_list t)) (last_fis.Pio t.slot))
     else blocking h (block_posting h.registers t 0xC0) (next_block t)
 
 -- all blocks have moved
@@ -149,12 +162,12 @@ finishing h t (Some fis) = closing h t.slot t.moved fis
 abbrev pub going_on : HbaView → TransferView → HbaView
 going_on h t =
     if nat_eq t.left 0 then finishing h t t.finish
-    else if t.write then block_out h (next_block t)
+    else if t.write then block_out h (next_sectors t) (next_block t)
     else block_in h t
 
 -- the block that it moves to the driver next
 abbrev pub block_content : TransferView → List Put
-block_content t = if sends_block t then block_puts t.rest else []
+block_content t = if sends_block t then block_puts t.rest (next_sectors t) else []
 
 abbrev pub content_of : WorkView → List Put
 content_of (Pio t) = block_content t

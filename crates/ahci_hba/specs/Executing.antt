@@ -35,7 +35,7 @@ use Rattle.ahci_hba.specs.Failing.{concluded, moves_some, sectors_failed, vacate
 use Rattle.ahci_hba.specs.HbaView.{CommandView, Fetched, HbaView}
 use Rattle.ahci_hba.specs.Keeping.{changed_by}
 use Rattle.ahci_hba.specs.Powering.{awake, turned}
-use Rattle.ahci_hba.specs.Queueing.{command_at, has_queued, is_alone, is_on, list_in, task_in}
+use Rattle.ahci_hba.specs.Queueing.{command_at, has_no_blocks, has_queued, is_alone, is_on, list_in, task_in}
 use Rattle.ahci_hba.specs.Storing.{content_in, stored}
 
 -- a command is aborted; the signature of a disk stands in LBA and count (Serial ATA, "Signature")
@@ -84,20 +84,20 @@ replied h slot r = changed_by r (turned r (concluded h slot (reply_fis h r)))
 
 -- a page of 512 bytes goes to the driver, by PIO or DMA
 abbrev pub page_by : HbaView → ℕ → Protocol → List PrdEntry → List ℕ → HbaView
-page_by h slot Pio list page = page_answer h slot list page
 page_by h slot Dma list page = read_answer h slot list page 512 done
+page_by h slot p list page = page_answer h slot list page
 
 abbrev pub paged : HbaView → ℕ → Protocol → List PrdEntry → List ℕ → HbaView
 paged h slot p list page = page_by (vacated h slot) slot p list page
 
 -- why the device aborts a command that is not queued: queued ones are outstanding (ACS-3, "Native Command Queuing"), or one has failed
--- and its log is not read yet, but for a command that reads it
+-- and its log is not read yet, but for a command that reads it, or it is READ or WRITE MULTIPLE and no block size is set
 abbrev pub reads_error_log : Action → Bool
 reads_error_log (Page (page.Log QueuedError) p) = true
 reads_error_log other = false
 
 abbrev pub is_aborted : HbaView → Action → Bool
-is_aborted h a = list_any has_queued h.slots || (halted h.port.past && not (reads_error_log a))
+is_aborted h a = list_any has_queued h.slots || (halted h.port.past && not (reads_error_log a)) || has_no_blocks h a
 
 -- a command that is not queued is read
 abbrev pub is_alone_fetched : Option CommandView → Bool
@@ -118,8 +118,8 @@ pub record Flushes (slot : ℕ) (old new : HbaView) : Type 0 where
 
 -- so many pages go to the driver, by PIO a block each
 abbrev pub pages_by : HbaView → ℕ → Protocol → List PrdEntry → List ℕ → ℕ → HbaView
-pages_by h slot Pio list bytes n = beginning h slot false n (record { list = list; bytes = bytes }) None
 pages_by h slot Dma list bytes n = read_answer h slot list bytes (512 * n) done
+pages_by h slot p list bytes n = beginning h slot false n 1 (record { list = list; bytes = bytes }) None
 
 abbrev pub pages_given : HbaView → ℕ → Protocol → List PrdEntry → List ℕ → ℕ → HbaView
 pages_given h slot p list bytes n = pages_by (vacated h slot) slot p list bytes n

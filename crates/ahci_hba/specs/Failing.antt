@@ -13,7 +13,7 @@ use Rattle.hba_command.specs.declared.action.Action.TheVariants.{Queue, Sectors,
 use Rattle.hba_command.specs.declared.addressing.Addressing.{Addressing}
 use Rattle.hba_command.specs.declared.entry.PrdEntry.{PrdEntry}
 use Rattle.hba_command.specs.declared.protocol.Protocol.{Protocol}
-use Rattle.hba_command.specs.declared.protocol.Protocol.TheVariants.{Pio, Dma}
+use Rattle.hba_command.specs.declared.protocol.Protocol.TheVariants.{Dma}
 use Rattle.hba_memory.specs.Posting.{PostingView}
 use Rattle.hba_memory.specs.Runs.{placed}
 use Rattle.hba_regs.specs.HbaState.{HbaState}
@@ -21,7 +21,7 @@ use Rattle.ahci_port.specs.PortView.{PortView, sectors_in}
 use Rattle.ahci_port.specs.Steps.{IsStepped}
 use Rattle.ahci_port.specs.declared.step.DeviceStep.TheVariants as step
 use Rattle.ahci_port.specs.declared.step.Stepped.{Stepped}
-use Rattle.ahci_hba.specs.Delivering.{beginning, d2h_fis, fis_ending, read_answer, received_put}
+use Rattle.ahci_hba.specs.Delivering.{beginning_by, d2h_fis, fis_ending, read_answer, received_put}
 use Rattle.ahci_hba.specs.HbaView.{HbaView}
 use Rattle.ahci_hba.specs.Moving.{answering, ending_of}
 use Rattle.ahci_hba.specs.Powering.{woken_for}
@@ -52,7 +52,7 @@ sectors_of port first sectors = sectors_at port.starting port.past first sectors
 -- some sectors go to the driver, and then the FIS
 abbrev pub moved_before : HbaView → ℕ → Protocol → List PrdEntry → List ℕ → ℕ → D2hFields → HbaView
 moved_before h slot Dma list bytes n fis = read_answer h slot list bytes (512 * n) fis
-moved_before h slot Pio list bytes n fis = beginning h slot false n (record { list = list; bytes = bytes }) (Some fis)
+moved_before h slot p list bytes n fis = beginning_by h slot p false n (record { list = list; bytes = bytes }) (Some fis)
 
 -- a command that ends at an LBA is a read that has moved sectors before it
 abbrev pub moves_some : PortView → Bool → SpanFields → ℕ → Bool

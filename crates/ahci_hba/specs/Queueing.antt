@@ -4,6 +4,7 @@ use Rattle.std.specs.List.{list_any, range_with_len}
 use Rattle.sata_fis.specs.Fields.{QueuedFields}
 use Rattle.word_bits.specs.Places.{has_place}
 use Rattle.hba_command.specs.Action.{action_of}
+use Rattle.hba_command.specs.MultipleMode.{lacks_blocks}
 use Rattle.hba_command.specs.Power.{is_awake}
 use Rattle.hba_command.specs.declared.action.Action.{Action}
 use Rattle.hba_command.specs.declared.action.Action.TheVariants.{Queue, Sectors, Page, Store, Flush, Reply, Control, Abort}
@@ -81,10 +82,16 @@ is_on port span = nat_le (span.lba + span.sectors) (sectors_in port)
 abbrev pub has_tag : HbaView → QueuedFields → Bool
 has_tag h q = nat_lt q.tag h.depth
 
--- a command goes to the port: a queued one whose tag the device has, or one that moves sectors of the disk while no queued one is outstanding
+-- READ or WRITE MULTIPLE, while SET MULTIPLE MODE has set no block size
+abbrev pub has_no_blocks : HbaView → Action → Bool
+has_no_blocks h (Sectors write span p) = lacks_blocks h.device.multiple p
+has_no_blocks h other = false
+
+-- a command goes to the port: a queued one whose tag the device has, or one that moves sectors of the disk while no queued one is outstanding,
+-- whose blocks have a size
 abbrev pub moves_sectors : HbaView → Action → Bool
 moves_sectors h (Queue q) = has_tag h q
-moves_sectors h (Sectors write span p) = is_on h.port span && not (list_any has_queued h.slots)
+moves_sectors h (Sectors write span p) = is_on h.port span && not (list_any has_queued h.slots) && not (lacks_blocks h.device.multiple p)
 moves_sectors h (Page page p) = false
 moves_sectors h (Store s p) = false
 moves_sectors h (Flush a) = false

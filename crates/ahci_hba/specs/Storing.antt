@@ -4,7 +4,7 @@ use Rattle.sata_fis.specs.Fields.{D2hFields}
 use Rattle.hba_command.specs.Device.{after_store}
 use Rattle.hba_command.specs.Store.{blocks_of, leaves_disk}
 use Rattle.hba_command.specs.declared.protocol.Protocol.{Protocol}
-use Rattle.hba_command.specs.declared.protocol.Protocol.TheVariants.{Pio, Dma}
+use Rattle.hba_command.specs.declared.protocol.Protocol.TheVariants.{Dma}
 use Rattle.hba_command.specs.declared.store.Store.{Store}
 use Rattle.hba_command.specs.declared.store.Store.TheVariants.{Buffer, Trim}
 use Rattle.ahci_port.specs.PortView.{PortView, sectors_in}
@@ -25,8 +25,8 @@ store_fis port (Trim blocks) bytes = if leaves_disk (sectors_in port) bytes then
 
 -- so many blocks have gone to the device, by PIO one after the other
 abbrev pub taken_by : HbaView → ℕ → Protocol → ℕ → D2hFields → HbaView
-taken_by h slot Pio n fis = beginning h slot true n (record { list = []; bytes = [] }) (Some fis)
 taken_by h slot Dma n fis = closing h slot (512 * n) fis
+taken_by h slot p n fis = beginning h slot true n 1 (record { list = []; bytes = [] }) (Some fis)
 
 abbrev pub stored : HbaView → ℕ → Store → Protocol → List ℕ → HbaView
 stored h slot s p bytes = taken_by (keeping (vacated h slot) (after_store s bytes h.device)) slot p (blocks_of s) (store_fis h.port s bytes)

@@ -1,15 +1,16 @@
 -- A transfer by PIO, block by block (Serial ATA, "PIO Setup"; ACS-3, "PIO data-in command protocol" and "PIO data-out command protocol").
-use Rattle.std.specs.Prelude.{ℕ, ◌+◌, ◌-◌, Bool, false, not, ◌||◌, ◌&&◌, min, nat_eq, nat_le, nat_lt, List, Option, is_some, if◌then◌else◌}
+use Rattle.std.specs.Prelude.{ℕ, ◌+◌, ◌-◌, ◌*◌, Bool, false, not, ◌||◌, ◌&&◌, min, nat_le, nat_lt, List, Option, is_some, if◌then◌else◌}
 use Rattle.sata_fis.specs.Fields.{D2hFields}
 use Rattle.hba_command.specs.declared.entry.PrdEntry.{PrdEntry}
 use Rattle.hba_memory.specs.Blocks.{BlocksView, after_block, block_list}
 use Rattle.hba_memory.specs.Runs.{total}
 
--- the blocks that are done and left, the data of a read that are left, and the D2H Register FIS that ends it, but for a read that its last
--- block ends
+-- how many sectors a block has at most, the blocks that are done, the sectors and the data of a read that are left, and the D2H Register FIS that
+-- ends it, but for a read that its last block ends
 pub record TransferView : Type 0 where
   pub slot : ℕ
   pub write : Bool
+  pub most : ℕ
   pub done : ℕ
   pub left : ℕ
   -- how many bytes have moved, and whether the list had no room for the whole last block
@@ -30,22 +31,29 @@ moved_to n list = min n (total list)
 abbrev pub has_interrupt : TransferView → Bool
 has_interrupt t = not t.write || nat_lt 1 t.done
 
+-- how many sectors the next block has: the last one has those that are left (ACS-3, "READ MULTIPLE" and "WRITE MULTIPLE")
+abbrev pub next_sectors : TransferView → ℕ
+next_sectors t = min t.most t.left
+
 -- the next block ends a read, in which nothing has failed
 abbrev pub is_last : TransferView → Bool
-is_last t = nat_eq t.left 1 && not (is_some t.finish)
+is_last t = nat_le t.left t.most && not (is_some t.finish)
 
--- so many blocks come
-abbrev pub first_block : ℕ → Bool → ℕ → BlocksView → Option D2hFields → TransferView
-first_block slot write n rest finish =
-    record { slot = slot; write = write; done = 0; left = n; moved = 0; short = false; rest = rest; finish = finish }
+-- so many sectors come, in blocks of at most so many
+abbrev pub first_block : ℕ → Bool → (n most : ℕ) → BlocksView → Option D2hFields → TransferView
+first_block slot write n most rest finish =
+    record { slot = slot; write = write; most = most; done = 0; left = n; moved = 0; short = false; rest = rest; finish = finish }
 
 -- a block to the driver comes next
 abbrev pub sends_block : TransferView → Bool
 sends_block t = not t.write && nat_lt 0 t.left
 
 -- how many bytes the next block moves, of a read those that the list has room for; and how many have moved then
+abbrev pub next_list : TransferView → List PrdEntry
+next_list t = block_list t.rest (next_sectors t)
+
 abbrev pub moved_next : TransferView → ℕ
-moved_next t = if t.write then 512 else moved_to 512 (block_list t.rest)
+moved_next t = if t.write then 512 * next_sectors t else moved_to (512 * next_sectors t) (next_list t)
 
 abbrev pub moved_so_far : TransferView → ℕ
 moved_so_far t = t.moved + moved_next t
@@ -54,8 +62,8 @@ moved_so_far t = t.moved + moved_next t
 abbrev pub next_block : TransferView → TransferView
 next_block t = record t {
   done = t.done + 1;
-  left = t.left - 1;
+  left = t.left - next_sectors t;
   moved = moved_so_far t;
-  short = not t.write && not (fits 512 (block_list t.rest));
-  rest = if t.write then t.rest else after_block t.rest;
+  short = not t.write && not (fits (512 * next_sectors t) (next_list t));
+  rest = if t.write then t.rest else after_block t.rest (next_sectors t);
 }

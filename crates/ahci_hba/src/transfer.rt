@@ -9,6 +9,7 @@ use std::marker::Model;
 pub(crate) struct Transfer<A: Allocator = Global> {
     slot: Slot,
     write: bool,
+    most: u32,
     done: u32,
     left: u32,
     moved: u32,
@@ -23,32 +24,35 @@ impl<A: Allocator> Model for Transfer<A> {
 
     ghost Value = { TransferView };
 
-    ghost view = { λ t. record { slot = t.slot; write = t.write; done = t.done; left = t.left; moved = t.moved; short = t.short; rest = t.rest; finish = t.finish } };
+    ghost view = { λ t. record { slot = t.slot; write = t.write; most = t.most; done = t.done; left = t.left; moved = t.moved; short = t.short; rest = t.rest; finish = t.finish } };
 
-    ghost invariant = { λ t. (t.done + t.left ≤ 65536) × (t.moved ≤ 512 * t.done) };
+    ghost invariant = { λ t. (t.done + t.left ≤ 65536) × (t.moved + 512 * t.left ≤ 33554432) × (1 ≤ t.most) × (t.most ≤ 16) };
 }
 
 impl<A: Allocator> Transfer<A> {
     ghost use Rattle.std.specs.Prelude.{◌≡◌, ◌≤◌, ◌<◌, ◌*◌, ◌+◌};
-    ghost use Rattle.ahci_hba.specs.Transfer.{first_block, fits, has_interrupt, is_last, moved_next, moved_so_far, next_block, sends_block};
-    ghost use Rattle.hba_memory.specs.Blocks.{block_list};
+    ghost use Rattle.ahci_hba.specs.Transfer.{first_block, fits, has_interrupt, is_last, moved_next, moved_so_far, next_block, next_list, next_sectors, sends_block};
 
-    /// A transfer of so many blocks, for a slot; a D2H Register FIS ends it, or its last block.
+    /// A transfer of so many sectors, in blocks of at most so many, for a slot; a D2H Register FIS ends it, or its last block.
     pub(crate) fn new(
         slot: Slot,
         write: bool,
-        blocks: u32,
+        sectors: u32,
+        most: u32,
         rest: Blocks<A>,
         finish: Option<D2h>,
     ) -> Self
-        requires blocks { blocks ≤ 65536 }
-        ensures { result ≡ first_block slot write blocks rest finish }
+        requires sectors { sectors ≤ 65536 }
+        requires some { 1 ≤ most }
+        requires most { most ≤ 16 }
+        ensures { result ≡ first_block slot write sectors most rest finish }
     {
         Transfer {
             slot,
             write,
+            most,
             done: 0,
-            left: blocks,
+            left: sectors,
             moved: 0,
             short: false,
             rest,
@@ -77,7 +81,7 @@ impl<A: Allocator> Transfer<A> {
         !self.write && self.left > 0
     }
 
-    /// How many blocks are left.
+    /// How many sectors are left.
     pub(crate) fn left(&self) -> u32
         ensures { result ≡ self.now.left }
     {
@@ -90,6 +94,14 @@ impl<A: Allocator> Transfer<A> {
         ensures most { result ≤ 65536 }
     {
         self.done
+    }
+
+    /// How many sectors the next block has.
+    pub(crate) fn next_sectors(&self) -> u32
+        ensures value { result ≡ next_sectors self.now }
+        ensures most { result ≤ 16 }
+    {
+        self.most.min(self.left)
     }
 
     /// The FIS that ends it; none if its last block does.
@@ -117,14 +129,15 @@ impl<A: Allocator> Transfer<A> {
     pub(crate) fn is_last(&self) -> bool
         ensures { result ≡ is_last self.now }
     {
-        self.left == 1 && self.finish.is_none()
+        self.left <= self.most && self.finish.is_none()
     }
 
     /// Whether the list has room for the next block.
     pub(crate) fn fits(&self) -> bool
-        ensures { result ≡ fits 512 (block_list self.now.rest) }
+        ensures { result ≡ fits (512 * next_sectors self.now) (next_list self.now) }
     {
-        512 <= self.rest.block_room()
+        let sectors = self.next_sectors();
+        u128::from(512 * sectors) <= self.rest.block_room(sectors)
     }
 
     /// How many bytes have moved.
@@ -144,35 +157,37 @@ impl<A: Allocator> Transfer<A> {
     /// How many bytes the next block moves: those of a read that the list has room for.
     fn moved_next(&self) -> u32
         ensures value { result ≡ moved_next self.now }
-        ensures most { result ≤ 512 }
+        ensures most { result ≤ 512 * next_sectors self.now }
     {
+        let sectors = self.next_sectors();
         if self.write {
-            512
+            512 * sectors
         } else {
-            self.rest.block_room().min(512) as u32
+            self.rest.block_room(sectors).min(u128::from(512 * sectors)) as u32
         }
     }
 
     /// How many bytes have moved with the next block.
     pub(crate) fn moved_so_far(&self) -> u32
         ensures value { result ≡ moved_so_far self.now }
-        ensures most { result ≤ 512 * self.now.done + 512 }
+        ensures most { result ≤ self.now.moved + 512 * next_sectors self.now }
     {
         self.moved + self.moved_next()
     }
 
-    /// The next block is done. One is left.
+    /// The next block is done. Some sector is left.
     pub(crate) fn advance(&mut self)
         requires { 0 < self.old.left }
         ensures { self.new ≡ next_block self.old }
     {
+        let sectors = self.next_sectors();
         let moved = self.moved_so_far();
         let short = !self.write && !self.fits();
         if !self.write {
-            self.rest.advance();
+            self.rest.advance(sectors);
         }
         self.done += 1;
-        self.left -= 1;
+        self.left -= sectors;
         self.moved = moved;
         self.short = short;
     }

@@ -15,15 +15,15 @@ use Rattle.hba_command.specs.declared.task.Task.TheVariants as task
 
 abbrev pub action_of : Task → Action
 action_of (task.Queue q) = Queue q  -- READ FPDMA QUEUED, WRITE FPDMA QUEUED
-action_of (task.Read span p) = Sectors false span p  -- READ SECTOR(S), READ DMA, with EXT or without
-action_of (task.Write span p) = Sectors true span p  -- WRITE SECTOR(S), WRITE DMA, with EXT or without
+action_of (task.Read span p) = Sectors false span p  -- READ SECTOR(S), READ MULTIPLE, READ DMA, with EXT or without
+action_of (task.Write span p) = Sectors true span p  -- WRITE SECTOR(S), WRITE MULTIPLE, WRITE DMA, with EXT or without
 action_of (task.Verify span) = Reply (reply.Verified span)  -- READ VERIFY SECTOR(S), with EXT or without
 action_of (task.Flush a) = Flush a  -- FLUSH CACHE, with EXT or without
 action_of task.Identify = Page page.Identify Pio  -- IDENTIFY DEVICE
 action_of (task.ReadLog log p) = Page (page.Log log) p  -- READ LOG EXT, READ LOG DMA EXT
 action_of (task.ReadPage ready p) = Page (page.Disk ready) p  -- READ LOG EXT, READ LOG DMA EXT, SMART, READ BUFFER
 action_of (task.Store s p) = Store s p  -- WRITE BUFFER, with DMA or without, DATA SET MANAGEMENT
-action_of (task.Change c) = Reply (reply.Changed c)  -- SET FEATURES, SMART
+action_of (task.Change c) = Reply (reply.Changed c)  -- SET FEATURES, SET MULTIPLE MODE, SMART
 action_of task.SmartStatus = Reply reply.SmartStatus  -- SMART RETURN STATUS
 action_of (task.NativeMax a) = Reply (reply.NativeMax a)  -- READ NATIVE MAX ADDRESS, with EXT or without
 action_of task.PowerMode = Reply reply.PowerMode  -- CHECK POWER MODE
@@ -31,7 +31,7 @@ action_of task.Idle = Reply (reply.Entered power.Idle)  -- IDLE, IDLE IMMEDIATE
 action_of task.Standby = Reply (reply.Entered power.Standby)  -- STANDBY, STANDBY IMMEDIATE
 action_of task.Sleep = Reply (reply.Entered power.Sleep)  -- SLEEP
 action_of task.Diagnose = Reply reply.Diagnosed  -- EXECUTE DEVICE DIAGNOSTIC
-action_of task.Nothing = Reply reply.Done  -- SET FEATURES 03h
+action_of task.Nothing = Reply reply.Done  -- SET FEATURES 03h of a PIO mode
 action_of (task.Control reset) = Control reset  -- the device control register
 action_of task.Packet = Reply reply.Packet  -- IDENTIFY PACKET DEVICE
 action_of task.Unknown = Abort  -- every other command

@@ -30,7 +30,7 @@ reply_addressing reply.Packet = Bits28
 
 abbrev pub addressing_of : Action → Addressing
 addressing_of (action.Queue q) = Bits48  -- READ FPDMA QUEUED, WRITE FPDMA QUEUED
-addressing_of (action.Sectors write span p) = span.addressing  -- READ SECTOR(S), READ DMA, WRITE SECTOR(S), WRITE DMA, with EXT or without
+addressing_of (action.Sectors write span p) = span.addressing  -- READ SECTOR(S), READ MULTIPLE, READ DMA, and the writes of those names, with EXT or without
 addressing_of (action.Page page.Identify p) = Bits28  -- IDENTIFY DEVICE
 addressing_of (action.Page (page.Log log) p) = Bits48  -- READ LOG EXT, READ LOG DMA EXT
 addressing_of (action.Page (page.Disk ready) p) = page_addressing ready

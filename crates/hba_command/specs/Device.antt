@@ -1,20 +1,22 @@
--- What the disk keeps between commands, and what changes it (ACS-3, "SET FEATURES", "SMART" and "WRITE BUFFER", by the titles of subcommands).
+-- What the disk keeps between commands, and what changes it (ACS-3, "SET FEATURES", "SET MULTIPLE MODE", "SMART" and "WRITE BUFFER", by the titles of
+-- subcommands).
 use Rattle.std.specs.Prelude.{ℕ, ◌+◌, ◌-◌, ◌*◌, ◌%◌, Bool, true, false, not, ◌==◌, ◌||◌, List, length, replicate, slice_index, slice_set, if◌then◌else◌}
 use Rattle.hba_command.specs.DiskPage.{needs_smart}
 use Rattle.hba_command.specs.Identity.{usual_identity}
 use Rattle.hba_command.specs.Words.{with_word}
 use Rattle.hba_command.specs.declared.change.Change.{Change}
-use Rattle.hba_command.specs.declared.change.Change.TheVariants.{WriteCache, LookAhead, PowerLevel, Reverting, Smart, Test, NothingSmart}
+use Rattle.hba_command.specs.declared.change.Change.TheVariants.{WriteCache, LookAhead, PowerLevel, Reverting, DmaMode, Multiple, Smart, Test, NothingSmart}
 use Rattle.hba_command.specs.declared.device.Device.{Device}
 use Rattle.hba_command.specs.declared.disk_page.DiskPage.{DiskPage}
 use Rattle.hba_command.specs.declared.identity.Identity.{Identity}
+use Rattle.hba_command.specs.declared.multiple_mode.MultipleMode.TheVariants.{Disabled}
 use Rattle.hba_command.specs.declared.reply.Reply.{Reply}
 use Rattle.hba_command.specs.declared.reply.Reply.TheVariants.{Changed}
 use Rattle.hba_command.specs.declared.store.Store.{Store}
 use Rattle.hba_command.specs.declared.store.Store.TheVariants.{Buffer, Trim}
 
--- a disk that has never been used, without a volatile write cache; look-ahead and SMART operations are enabled, Advanced Power Management is
--- not, and a software reset leaves the settings (profile)
+-- a disk that has never been used, without a volatile write cache; look-ahead and SMART operations are enabled, Advanced Power Management, READ
+-- and WRITE MULTIPLE are not, Ultra DMA mode 5 is selected, and a software reset leaves the settings (profile)
 unfoldable pub new_device : Device
 new_device = record {
   identity = usual_identity;
@@ -23,6 +25,8 @@ new_device = record {
   look_ahead = true;
   power_level = 0;
   reverts = false;
+  dma_mode = 0x45;
+  multiple = Disabled;
   smart = true;
   tests = with_word 0 0x0001 (replicate 512 0);
   more_tests = with_word 0 0x0001 (replicate 512 0);
@@ -36,10 +40,10 @@ with_cache has d = record d { has_cache = has; cache = has }
 abbrev pub named : Identity → Device → Device
 named identity d = record d { identity = identity }
 
--- a hardware reset or power-on: the settings of SET FEATURES are the defaults. SMART stays enabled or disabled ("SMART ENABLE OPERATIONS"), and its
+-- a hardware reset or power-on: the settings of SET FEATURES and SET MULTIPLE MODE are the defaults. SMART stays enabled or disabled ("SMART ENABLE OPERATIONS"), and its
 -- logs stay
 abbrev pub reset_device : Device → Device
-reset_device d = record d { cache = d.has_cache; look_ahead = true; power_level = 0; reverts = false }
+reset_device d = record d { cache = d.has_cache; look_ahead = true; power_level = 0; reverts = false; dma_mode = 0x45; multiple = Disabled }
 
 -- a software reset: it reverts to the defaults only if SET FEATURES CCh has enabled that ("Enable/disable reverting to defaults")
 abbrev pub after_srst : Device → Device
@@ -52,6 +56,8 @@ allows d (WriteCache enabled) = d.has_cache
 allows d (LookAhead enabled) = true
 allows d (PowerLevel level) = true
 allows d (Reverting reverts) = true
+allows d (DmaMode mode) = true
+allows d (Multiple mode) = true
 allows d (Smart enabled) = enabled || d.smart
 allows d (Test test) = d.smart
 allows d NothingSmart = d.smart
@@ -76,6 +82,8 @@ changed (WriteCache enabled) d = record d { cache = enabled }
 changed (LookAhead enabled) d = record d { look_ahead = enabled }
 changed (PowerLevel level) d = record d { power_level = level }
 changed (Reverting reverts) d = record d { reverts = reverts }
+changed (DmaMode mode) d = record d { dma_mode = mode }
+changed (Multiple mode) d = record d { multiple = mode }
 changed (Smart enabled) d = record d { smart = enabled }
 changed (Test test) d = record d { tests = tested test d.tests; more_tests = more_tested test d.more_tests }
 changed NothingSmart d = d

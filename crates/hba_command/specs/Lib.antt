@@ -10,8 +10,11 @@ pub mod Action
 pub mod Addressing
 pub mod Power
 pub mod Words
+pub mod WideName
+pub mod MultipleMode
 pub mod Identity
 pub mod Device
 pub mod Pages
+pub mod IdentifyLog
 pub mod LongLogs
 pub mod DiskPages

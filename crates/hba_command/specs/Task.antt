@@ -6,12 +6,13 @@ use Rattle.sata_fis.specs.Places.{bit}
 use Rattle.hba_command.specs.LogPages.{LogPagesFields}
 use Rattle.hba_command.specs.Span.{SpanFields}
 use Rattle.hba_command.specs.declared.addressing.Addressing.TheVariants.{Bits28, Bits48}
-use Rattle.hba_command.specs.declared.change.Change.TheVariants.{WriteCache, LookAhead, PowerLevel, Reverting, Smart, Test, NothingSmart}
+use Rattle.hba_command.specs.declared.change.Change.TheVariants.{WriteCache, LookAhead, PowerLevel, Reverting, DmaMode, Multiple as Blocks, Smart, Test, NothingSmart}
 use Rattle.hba_command.specs.declared.disk_page.DiskPage.TheVariants.{Directory, Errors, Tests, PhyEvents, SmartData, SmartThresholds, SmartDirectory, SmartErrors, SmartTests, Buffer}
 use Rattle.hba_command.specs.declared.log.Log.TheVariants.{Pages, QueuedError}
 use Rattle.hba_command.specs.declared.log.LongLog.TheVariants.{Statistics, IdentifyData}
+use Rattle.hba_command.specs.declared.multiple_mode.MultipleMode.TheVariants.{Disabled, One, Two, Four, Eight, Sixteen}
 use Rattle.hba_command.specs.declared.protocol.Protocol.{Protocol}
-use Rattle.hba_command.specs.declared.protocol.Protocol.TheVariants.{Pio, Dma}
+use Rattle.hba_command.specs.declared.protocol.Protocol.TheVariants.{Pio, Multiple, Dma}
 use Rattle.hba_command.specs.declared.store.Store.TheVariants as store
 use Rattle.hba_command.specs.declared.task.Task.{Task}
 use Rattle.hba_command.specs.declared.task.Task.TheVariants.{Queue, Read, Write, Verify, Flush, Identify, ReadLog, ReadPage, Store, Change, SmartStatus, NativeMax, PowerMode, Idle, Standby, Sleep, Diagnose, Nothing, Control, Packet, Unknown}
@@ -40,7 +41,7 @@ first_page f = f.lba / 2 ^ 8 % 256 + 256 * (f.lba / 2 ^ 32 % 256)
 abbrev pub pages_in : ℕ → ℕ
 pages_in log =
     if log == 0x00 || log == 0x03 || log == 0x07 || log == 0x10 || log == 0x11 then 1
-    else (if log == 0x04 then 2 else (if log == 0x30 then 3 else 0))
+    else (if log == 0x04 then 2 else (if log == 0x30 then 7 else 0))
 
 -- the count is of pages that the log has, at least one
 abbrev pub is_in_log : H2dFields → Bool
@@ -61,16 +62,22 @@ log_task f p =
     else (if log_of f == 0x30 then ReadLog (Pages IdentifyData (pages_asked f)) p
     else Unknown)))))))
 
--- a transfer mode that the disk has, by the count of SET FEATURES (ACS-3, "Set transfer mode"): the default PIO mode, PIO modes 0 to 4,
--- multiword DMA modes 0 to 2, Ultra DMA modes 0 to 5
-abbrev pub is_mode : ℕ → Bool
-is_mode m = m == 0x00 || m == 0x01 || (nat_le 0x08 m && nat_le m 0x0C) || (nat_le 0x20 m && nat_le m 0x22) || (nat_le 0x40 m && nat_le m 0x45)
+-- SET FEATURES 03h (ACS-3, "Set transfer mode"), by its count: the default PIO mode, and PIO modes 0 to 4, which no word of IDENTIFY DEVICE shows; multiword
+-- DMA modes 0 to 2, and Ultra DMA modes 0 to 5
+abbrev pub is_pio_mode : ℕ → Bool
+is_pio_mode m = m == 0x00 || m == 0x01 || (nat_le 0x08 m && nat_le m 0x0C)
+
+abbrev pub is_dma_mode : ℕ → Bool
+is_dma_mode m = (nat_le 0x20 m && nat_le m 0x22) || (nat_le 0x40 m && nat_le m 0x45)
+
+abbrev pub transfer_task : ℕ → Task
+transfer_task m = if is_pio_mode m then Nothing else (if is_dma_mode m then Change (DmaMode m) else Unknown)
 
 -- SET FEATURES, by its subcommand: the level of Advanced Power Management is 01h to FEh
 abbrev pub features_task : (subcommand count : ℕ) → Task
 features_task subcommand count =
     if subcommand == 0x02 then Change (WriteCache true)  -- enable the volatile write cache
-    else (if subcommand == 0x03 && is_mode (count % 256) then Nothing  -- set transfer mode
+    else (if subcommand == 0x03 then transfer_task (count % 256)  -- set transfer mode
     else (if subcommand == 0x05 && not (count % 256 == 0) && not (count % 256 == 0xFF) then Change (PowerLevel (count % 256))  -- enable the APM feature set
     else (if subcommand == 0x55 then Change (LookAhead false)  -- disable read look-ahead
     else (if subcommand == 0x66 then Change (Reverting false)  -- disable reverting to defaults
@@ -121,6 +128,29 @@ settings_task code f =
     else (if code == 0xEF then features_task (f.features % 256) f.count  -- SET FEATURES
     else Unknown))))))
 
+-- SET MULTIPLE MODE, by its count: 0 disables READ and WRITE MULTIPLE (profile), and a block has a power of two of sectors, up to the most that word 47
+-- of IDENTIFY DEVICE tells, 16
+abbrev pub mode_task : ℕ → Task
+mode_task count =
+    if count == 0 then Change (Blocks Disabled)
+    else (if count == 1 then Change (Blocks One)
+    else (if count == 2 then Change (Blocks Two)
+    else (if count == 4 then Change (Blocks Four)
+    else (if count == 8 then Change (Blocks Eight)
+    else (if count == 16 then Change (Blocks Sixteen)
+    else Unknown)))))
+
+-- by the code of a command of blocks of several sectors, or of those above
+abbrev pub multiple_task : ℕ → H2dFields → Task
+multiple_task code f =
+    if code == 0x29 then Read (long_span f) Multiple  -- READ MULTIPLE EXT
+    else (if code == 0x39 then Write (long_span f) Multiple  -- WRITE MULTIPLE EXT
+    else (if code == 0xC4 then Read (short_span f) Multiple  -- READ MULTIPLE
+    else (if code == 0xC5 then Write (short_span f) Multiple  -- WRITE MULTIPLE
+    else (if code == 0xC6 then mode_task (f.count % 256)  -- SET MULTIPLE MODE
+    else (if code == 0xCE then Write (long_span f) Multiple  -- WRITE MULTIPLE FUA EXT
+    else settings_task code f)))))
+
 -- by the code of a command that is not queued
 abbrev pub task_by : ℕ → H2dFields → Task
 task_by code f =
@@ -148,7 +178,7 @@ task_by code f =
     else (if code == 0xEA then Flush Bits48  -- FLUSH CACHE EXT
     else (if code == 0xEC then Identify  -- IDENTIFY DEVICE
     else (if code == 0xF8 then NativeMax Bits28  -- READ NATIVE MAX ADDRESS
-    else settings_task code f)))))))))))))))))))))))
+    else multiple_task code f)))))))))))))))))))))))
 
 -- a queued command, else one that is not
 abbrev pub command_task : H2dFields → Option QueuedFields → Task

@@ -1,4 +1,6 @@
-/// What a command changes in the disk that moves nothing (ACS-3, "SET FEATURES" and "SMART", by the titles of subcommands).
+use crate::multiple_mode::MultipleMode;
+
+/// What a command changes in the disk that moves nothing (ACS-3, "SET FEATURES", "SET MULTIPLE MODE" and "SMART", by the titles of subcommands).
 #[derive(Clone, Copy, Debug, PartialEq, Eq)]
 pub enum Change {
     /// SET FEATURES 02h and 82h: the volatile write cache is enabled, or not.
@@ -9,6 +11,10 @@ pub enum Change {
     PowerLevel(u8),
     /// SET FEATURES CCh and 66h: a software reset reverts to defaults, or not.
     Reverting(bool),
+    /// SET FEATURES 03h: the multiword or Ultra DMA mode, as the count of the command has it.
+    DmaMode(u8),
+    /// SET MULTIPLE MODE.
+    Multiple(MultipleMode),
     /// SMART ENABLE OPERATIONS and SMART DISABLE OPERATIONS.
     Smart(bool),
     /// SMART EXECUTE OFF-LINE IMMEDIATE: a self-test of this number, which passes at once.

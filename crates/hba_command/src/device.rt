@@ -1,4 +1,4 @@
-//! What the disk keeps between commands (ACS-3, "SET FEATURES", "SMART", "WRITE BUFFER" and "IDENTIFY DEVICE").
+//! What the disk keeps between commands (ACS-3, "SET FEATURES", "SET MULTIPLE MODE", "SMART", "WRITE BUFFER" and "IDENTIFY DEVICE").
 
 ghost use Rattle.std.specs.Prelude.{◌≡◌, replicate};
 ghost use Rattle.hba_command.specs.Device.{after_change, after_srst, after_store, allows, allows_page, buffered, changed, device_after_reply, more_tested, named, new_device, reset_device, tested, with_cache};
@@ -7,6 +7,7 @@ ghost use Rattle.hba_command.specs.Words.{with_word};
 use crate::change::Change;
 use crate::disk_page::{DiskPage, needs_smart};
 use crate::identity::Identity;
+use crate::multiple_mode::MultipleMode;
 use crate::reply::Reply;
 use crate::store::Store;
 use crate::words::put_word;
@@ -26,6 +27,10 @@ pub struct Device {
     pub power_level: u8,
     /// Whether a software reset reverts to defaults.
     pub reverts: bool,
+    /// The multiword or Ultra DMA mode that is selected, as the count of SET FEATURES 03h names it.
+    pub dma_mode: u8,
+    /// The blocks of READ and WRITE MULTIPLE.
+    pub multiple: MultipleMode,
     /// Whether SMART operations are enabled.
     pub smart: bool,
     /// The self-tests, as log 06h has them but for its checksum.
@@ -80,6 +85,8 @@ impl Device {
             look_ahead: true,
             power_level: 0,
             reverts: false,
+            dma_mode: 0x45, // Ultra DMA mode 5
+            multiple: MultipleMode::Disabled,
             smart: true,
             tests: no_tests(),
             more_tests: no_tests(),
@@ -118,6 +125,8 @@ pub fn reset_device(device: &Device) -> Device
         look_ahead: true,
         power_level: 0,
         reverts: false,
+        dma_mode: 0x45, // Ultra DMA mode 5
+        multiple: MultipleMode::Disabled,
         ..*device
     }
 }
@@ -140,6 +149,7 @@ pub fn allows(device: &Device, change: &Change) -> bool
     match change {
         Change::WriteCache(_) => device.has_cache,
         Change::LookAhead(_) | Change::PowerLevel(_) | Change::Reverting(_) => true,
+        Change::DmaMode(_) | Change::Multiple(_) => true,
         Change::Smart(enabled) => *enabled || device.smart,
         Change::Test(_) | Change::NothingSmart => device.smart,
     }
@@ -164,6 +174,14 @@ fn changed(device: &Device, change: &Change) -> Device
         },
         Change::Reverting(reverts) => Device {
             reverts: *reverts,
+            ..*device
+        },
+        Change::DmaMode(mode) => Device {
+            dma_mode: *mode,
+            ..*device
+        },
+        Change::Multiple(mode) => Device {
+            multiple: *mode,
             ..*device
         },
         Change::Smart(enabled) => Device {

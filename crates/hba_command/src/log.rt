@@ -5,7 +5,7 @@ use crate::log_pages::LogPages;
 pub enum LongLog {
     /// Log 04h, of two pages.
     Statistics,
-    /// Log 30h, of three pages.
+    /// Log 30h, of seven pages.
     IdentifyData,
 }
 

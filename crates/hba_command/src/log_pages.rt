@@ -1,6 +1,6 @@
 use std::marker::Model;
 
-/// Some pages of a log, one after the other: at least one, of pages 00h to 02h.
+/// Some pages of a log, one after the other: at least one, of pages 00h to 06h.
 #[derive(Clone, Copy, Debug, PartialEq, Eq)]
 pub struct LogPages {
     /// The first page.
@@ -17,7 +17,7 @@ impl Model for LogPages {
 
     ghost view = { λ p. p };
 
-    ghost invariant = { λ p. (1 ≤ p.count) × (p.first + p.count ≤ 3) };
+    ghost invariant = { λ p. (1 ≤ p.count) × (p.first + p.count ≤ 7) };
 
     ghost inverse = { λ p. p };
 }

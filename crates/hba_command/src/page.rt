@@ -18,7 +18,7 @@ pub enum Page {
 /// How many pages are read of a log.
 pub fn pages_in_log(log: &Log) -> u32
     ensures value { result ≡ pages_in_log log.now }
-    ensures most { result ≤ 3 }
+    ensures most { result ≤ 7 }
 {
     match log {
         Log::QueuedError => 1,
@@ -29,7 +29,7 @@ pub fn pages_in_log(log: &Log) -> u32
 /// How many pages of 512 bytes they are.
 pub fn pages_of(page: &Page) -> u32
     ensures value { result ≡ pages_of page.now }
-    ensures most { result ≤ 3 }
+    ensures most { result ≤ 7 }
 {
     match page {
         Page::Identify | Page::Disk(_) => 1,

@@ -12,9 +12,9 @@ use sata_fis::Queued;
 pub enum Task {
     /// READ FPDMA QUEUED and WRITE FPDMA QUEUED.
     Queue(Queued),
-    /// READ SECTOR(S), READ DMA, with EXT or without.
+    /// READ SECTOR(S), READ MULTIPLE, READ DMA, with EXT or without.
     Read(Span, Protocol),
-    /// WRITE SECTOR(S), WRITE DMA, with EXT or without, and WRITE DMA FUA EXT.
+    /// WRITE SECTOR(S), WRITE MULTIPLE, WRITE DMA, with EXT or without, and WRITE MULTIPLE FUA EXT, WRITE DMA FUA EXT.
     Write(Span, Protocol),
     /// READ VERIFY SECTOR(S), with EXT or without.
     Verify(Span),
@@ -28,7 +28,7 @@ pub enum Task {
     ReadPage(DiskPage, Protocol),
     /// WRITE BUFFER, with DMA or without, and DATA SET MANAGEMENT.
     Store(Store, Protocol),
-    /// SET FEATURES, SMART ENABLE OPERATIONS and its kin: what is changed.
+    /// SET FEATURES, SET MULTIPLE MODE, SMART ENABLE OPERATIONS and its kin: what is changed.
     Change(Change),
     /// SMART RETURN STATUS.
     SmartStatus,
@@ -44,7 +44,7 @@ pub enum Task {
     Sleep,
     /// EXECUTE DEVICE DIAGNOSTIC: the signature of a disk is answered.
     Diagnose,
-    /// A command with nothing to do: SET FEATURES 03h.
+    /// A command with nothing to do: SET FEATURES 03h of a PIO mode.
     Nothing,
     /// The device control register, with SRST, in a FIS whose C bit is 0.
     Control { reset: bool },

@@ -1,13 +1,14 @@
 //! The commands by their codes (ACS-3).
 
 ghost use Rattle.std.specs.Prelude.{◌≡◌, ◌%◌, ◌<◌, ◌^◌};
-ghost use Rattle.hba_command.specs.Task.{features_task, first_page, is_mode, log_task, long_span, offline_task, pages_in, settings_task, short_span, smart_log_task, smart_task, task_by, task_of};
+ghost use Rattle.hba_command.specs.Task.{features_task, first_page, log_task, long_span, mode_task, multiple_task, offline_task, pages_in, settings_task, short_span, smart_log_task, smart_task, task_by, task_of, transfer_task};
 
 use crate::addressing::Addressing;
 use crate::change::Change;
 use crate::disk_page::DiskPage;
 use crate::log::{Log, LongLog};
 use crate::log_pages::LogPages;
+use crate::multiple_mode::MultipleMode;
 use crate::protocol::Protocol;
 use crate::span::Span;
 use crate::store::Store;
@@ -47,7 +48,7 @@ fn pages_in(log: u64) -> u32
     match log {
         0x00 | 0x03 | 0x07 | 0x10 | 0x11 => 1,
         0x04 => 2,
-        0x30 => 3,
+        0x30 => 7,
         _ => 0,
     }
 }
@@ -89,12 +90,16 @@ fn log_task(h2d: &H2d, protocol: Protocol) -> Task
     }
 }
 
-/// Whether the disk has a transfer mode, by the count of SET FEATURES (ACS-3, "Set transfer mode"): the default PIO mode, PIO modes 0 to
-/// 4, multiword DMA modes 0 to 2, Ultra DMA modes 0 to 5.
-fn is_mode(count: u16) -> bool
-    ensures { result ≡ is_mode (count % 256) }
+/// SET FEATURES 03h (ACS-3, "Set transfer mode"), by its count: the default PIO mode, PIO modes 0 to 4, multiword DMA modes 0 to 2, Ultra DMA
+/// modes 0 to 5.
+fn transfer_task(mode: u8) -> Task
+    ensures { result ≡ transfer_task mode }
 {
-    matches!(count % 256, 0x00 | 0x01 | 0x08..=0x0C | 0x20..=0x22 | 0x40..=0x45)
+    match mode {
+        0x00 | 0x01 | 0x08..=0x0C => Task::Nothing,
+        0x20..=0x22 | 0x40..=0x45 => Task::Change(Change::DmaMode(mode)),
+        _ => Task::Unknown,
+    }
 }
 
 /// SET FEATURES, by its subcommand.
@@ -103,7 +108,7 @@ fn features_task(subcommand: u16, count: u16) -> Task
 {
     match subcommand {
         0x02 => Task::Change(Change::WriteCache(true)),
-        0x03 if is_mode(count) => Task::Nothing, // set transfer mode
+        0x03 => transfer_task((count % 256) as u8),
         0x05 if count % 256 != 0 && count % 256 != 0xFF => {
             Task::Change(Change::PowerLevel((count % 256) as u8))
         }
@@ -178,6 +183,36 @@ fn settings_task(code: u8, h2d: &H2d) -> Task
     }
 }
 
+/// SET MULTIPLE MODE, by its count: 0 disables READ and WRITE MULTIPLE, and a block has a power of two of sectors, up to 16.
+fn mode_task(count: u8) -> Task
+    ensures { result ≡ mode_task count }
+{
+    match count {
+        0 => Task::Change(Change::Multiple(MultipleMode::Disabled)),
+        1 => Task::Change(Change::Multiple(MultipleMode::One)),
+        2 => Task::Change(Change::Multiple(MultipleMode::Two)),
+        4 => Task::Change(Change::Multiple(MultipleMode::Four)),
+        8 => Task::Change(Change::Multiple(MultipleMode::Eight)),
+        16 => Task::Change(Change::Multiple(MultipleMode::Sixteen)),
+        _ => Task::Unknown,
+    }
+}
+
+/// What a command asks by its code that is of blocks of several sectors, of settings, of SMART, or of data that are no sectors.
+fn multiple_task(code: u8, h2d: &H2d) -> Task
+    ensures { result ≡ multiple_task code h2d.now }
+{
+    match code {
+        0x29 => Task::Read(long_span(h2d), Protocol::Multiple), // READ MULTIPLE EXT
+        0x39 => Task::Write(long_span(h2d), Protocol::Multiple), // WRITE MULTIPLE EXT
+        0xC4 => Task::Read(short_span(h2d), Protocol::Multiple), // READ MULTIPLE
+        0xC5 => Task::Write(short_span(h2d), Protocol::Multiple), // WRITE MULTIPLE
+        0xC6 => mode_task((h2d.count % 256) as u8), // SET MULTIPLE MODE
+        0xCE => Task::Write(long_span(h2d), Protocol::Multiple), // WRITE MULTIPLE FUA EXT
+        _ => settings_task(code, h2d),
+    }
+}
+
 /// What a command of this code asks, where it is not queued.
 fn task_by(code: u8, h2d: &H2d) -> Task
     ensures { result ≡ task_by code h2d.now }
@@ -207,7 +242,7 @@ fn task_by(code: u8, h2d: &H2d) -> Task
         0xEA => Task::Flush(Addressing::Bits48), // FLUSH CACHE EXT
         0xEC => Task::Identify, // IDENTIFY DEVICE
         0xF8 => Task::NativeMax(Addressing::Bits28), // READ NATIVE MAX ADDRESS
-        _ => settings_task(code, h2d),
+        _ => multiple_task(code, h2d),
     }
 }
 

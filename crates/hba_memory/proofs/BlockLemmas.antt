@@ -3,7 +3,7 @@ use Rattle.std.proofs.Common.{◌≡◌, ℕ, ◌+◌, ◌-◌, ◌<◌, ◌≤�
 use Rattle.std.proofs.lemmas.Bool.{le-ltb, lt-ltb}
 use Rattle.std.proofs.lemmas.List.{drop_all, drop-drop, drop_min, drop_more, drop-set, take_min, length-drop}
 use Rattle.hba_command.specs.declared.entry.PrdEntry.{PrdEntry}
-use Rattle.hba_memory.specs.Blocks.{BlocksView, after_block, list_after, no_entry, shortened}
+use Rattle.hba_memory.specs.Blocks.{BlocksView, list_after, no_entry, shortened}
 
 past_entry : (e : PrdEntry) (rest : List PrdEntry) (n : ℕ) → e.length ≤ n → list_after (e ∷ rest) n ≡ list_after rest (n - e.length)
 past_entry e rest n h = rw (le-ltb n e.length h) refl
@@ -36,11 +36,11 @@ first_of list i k n e =
     ap (λ k. take k (drop i list)) same ∙ take_min n (drop i list)
 
 -- the bytes and the list behind a block
-pub behind_block : (list list' : List PrdEntry) (bytes : List ℕ) (done k : ℕ) → list' ≡ list_after list 512 → k ≡ min 512 (length bytes - done)
-    → ◌≡◌ {A = BlocksView} (record { list = list'; bytes = drop (done + k) bytes }) (after_block (record { list = list; bytes = drop done bytes }))
-behind_block list list' bytes done k e m =
+pub behind_block : (list list' : List PrdEntry) (bytes : List ℕ) (done k n : ℕ) → list' ≡ list_after list n → k ≡ min n (length bytes - done)
+    → ◌≡◌ {A = BlocksView} (record { list = list'; bytes = drop (done + k) bytes }) (record { list = list_after list n; bytes = drop n (drop done bytes) })
+behind_block list list' bytes done k n e m =
     let len : length (drop done bytes) ≡ length bytes - done = length-drop done bytes in
-    let same : k ≡ min 512 (length (drop done bytes)) = omega arith in
+    let same : k ≡ min n (length (drop done bytes)) = omega arith in
     ap {A = List PrdEntry} {B = BlocksView} (λ l. record { list = l; bytes = drop (done + k) bytes }) e
-    ∙ ap {A = List ℕ} {B = BlocksView} (λ b. record { list = list_after list 512; bytes = b })
-    (sym (drop-drop k done bytes) ∙ ap (λ n. drop n (drop done bytes)) same ∙ drop_min 512 (drop done bytes))
+    ∙ ap {A = List ℕ} {B = BlocksView} (λ b. record { list = list_after list n; bytes = b })
+    (sym (drop-drop k done bytes) ∙ ap (λ x. drop x (drop done bytes)) same ∙ drop_min n (drop done bytes))

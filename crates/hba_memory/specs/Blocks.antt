@@ -1,5 +1,5 @@
--- How a command's data go to the driver one block after the other, by PIO (ACS-3, "PIO data-in command protocol"): a block is a sector.
-use Rattle.std.specs.Prelude.{ℕ, ◌+◌, ◌-◌, List, [], ◌∷◌, take, drop, nat_lt, if◌then◌else◌}
+-- How a command's data go to the driver one block after the other, by PIO (ACS-3, "PIO data-in command protocol"): a block has so many sectors.
+use Rattle.std.specs.Prelude.{ℕ, ◌+◌, ◌-◌, ◌*◌, List, [], ◌∷◌, take, drop, nat_lt, if◌then◌else◌}
 use Rattle.hba_command.specs.declared.entry.PrdEntry.{PrdEntry}
 use Rattle.hba_memory.specs.Runs.{Put, placed}
 use Rattle.hba_memory.specs.Table.{wrapped}
@@ -18,19 +18,19 @@ abbrev pub list_after : List PrdEntry → ℕ → List PrdEntry
 list_after [] n = []
 list_after (e ∷ rest) n = if nat_lt n e.length then shortened e n ∷ rest else list_after rest (n - e.length)
 
--- the next block, and where it goes: an entry names two bytes at least, so 256 of them have room for a block
-abbrev pub block_bytes : BlocksView → List ℕ
-block_bytes b = take 512 b.bytes
+-- the next block, of so many sectors, and where it goes: an entry names two bytes at least, so 256 of them have room for a sector
+abbrev pub block_bytes : BlocksView → (sectors : ℕ) → List ℕ
+block_bytes b n = take (512 * n) b.bytes
 
-abbrev pub block_list : BlocksView → List PrdEntry
-block_list b = take 256 b.list
+abbrev pub block_list : BlocksView → (sectors : ℕ) → List PrdEntry
+block_list b n = take (256 * n) b.list
 
-abbrev pub block_puts : BlocksView → List Put
-block_puts b = placed (block_list b) (block_bytes b)
+abbrev pub block_puts : BlocksView → (sectors : ℕ) → List Put
+block_puts b n = placed (block_list b n) (block_bytes b n)
 
 -- what is left behind it
-abbrev pub after_block : BlocksView → BlocksView
-after_block b = record { list = list_after b.list 512; bytes = drop 512 b.bytes }
+abbrev pub after_block : BlocksView → (sectors : ℕ) → BlocksView
+after_block b n = record { list = list_after b.list (512 * n); bytes = drop (512 * n) b.bytes }
 
 -- an entry of no bytes, for places after the last one
 abbrev pub no_entry : PrdEntry

@@ -9,11 +9,8 @@ use hba_command::PrdEntry;
 use std::alloc::{AllocError, Allocator, Global};
 use std::marker::Model;
 
-/// How many bytes a block has: a sector.
-pub const BLOCK: usize = 512;
-
-/// As many entries have room for a block: each names two bytes at least.
-const BLOCK_ENTRIES: usize = 256;
+/// As many entries have room for a sector: each names two bytes at least.
+const SECTOR_ENTRIES: usize = 256;
 
 /// The data of a command that reads by PIO, on their way to the runs of its PRDT, block by block. Contracts see the bytes that are left
 /// and the runs that they go to.
@@ -88,7 +85,7 @@ fn pass<A: Allocator>(list: &mut Vec<PrdEntry, A>, start: usize, bytes: u32) -> 
 }
 
 impl<A: Allocator> Blocks<A> {
-    ghost use Rattle.std.specs.Prelude.{◌≡◌, length};
+    ghost use Rattle.std.specs.Prelude.{◌≡◌, ◌≤◌, length};
     ghost use Rattle.hba_memory.specs.{Blocks.{after_block, block_list}, Runs.{total}};
 
     /// These bytes, to be written to the runs that the entries name.
@@ -104,51 +101,56 @@ impl<A: Allocator> Blocks<A> {
         }
     }
 
-    /// The entries for the next block.
-    fn block_list(&self) -> &[PrdEntry]
-        ensures { result.now ≡ block_list self.now }
+    /// The entries for the next block, of so many sectors.
+    fn block_list(&self, sectors: u32) -> &[PrdEntry]
+        requires { sectors ≤ 65536 }
+        ensures { result.now ≡ block_list self.now sectors }
     {
-        let count = BLOCK_ENTRIES.min(self.list.len() - self.next);
+        let count = (SECTOR_ENTRIES * sectors as usize).min(self.list.len() - self.next);
         &self.list[self.next..self.next + count]
     }
 
-    /// How many bytes there is room for in the entries for the next block.
-    pub fn block_room(&self) -> u128
-        ensures { result ≡ total (block_list self.now) }
+    /// How many bytes there is room for in the entries for the next block, of so many sectors.
+    pub fn block_room(&self, sectors: u32) -> u128
+        requires { sectors ≤ 65536 }
+        ensures { result ≡ total (block_list self.now sectors) }
     {
-        total(self.block_list())
+        total(self.block_list(sectors))
     }
 
-    /// The next block is written.
-    pub fn advance(&mut self)
-        ensures { self.new ≡ after_block self.old }
+    /// The next block is written, of so many sectors.
+    pub fn advance(&mut self, sectors: u32)
+        requires { sectors ≤ 65536 }
+        ensures { self.new ≡ after_block self.old sectors }
     {
-        let at = pass(&mut self.list, self.next, 512);
+        let at = pass(&mut self.list, self.next, 512 * sectors);
         self.next = at;
-        self.done += BLOCK.min(self.bytes.len() - self.done);
+        self.done += (512 * sectors as usize).min(self.bytes.len() - self.done);
     }
 }
 
 impl<A: Allocator> Blocks<A> {
-    ghost use Rattle.std.specs.Prelude.{◌≡◌, IfOk};
+    ghost use Rattle.std.specs.Prelude.{◌≡◌, ◌≤◌, IfOk};
     ghost use Rattle.hba_memory.specs.Blocks.{block_bytes, block_puts};
 
-    /// The bytes of the next block.
-    fn block_bytes(&self) -> &[u8]
-        ensures { result.now ≡ block_bytes self.now }
+    /// The bytes of the next block, of so many sectors.
+    fn block_bytes(&self, sectors: u32) -> &[u8]
+        requires { sectors ≤ 65536 }
+        ensures { result.now ≡ block_bytes self.now sectors }
     {
-        let count = BLOCK.min(self.bytes.len() - self.done);
+        let count = (512 * sectors as usize).min(self.bytes.len() - self.done);
         &self.bytes[self.done..self.done + count]
     }
 
-    /// The next block on its way. It is copied, with its entries.
-    pub fn block(&self, alloc: A) -> Result<Scatter<A>, AllocError>
+    /// The next block on its way, of so many sectors. It is copied, with its entries.
+    pub fn block(&self, alloc: A, sectors: u32) -> Result<Scatter<A>, AllocError>
     where
         A: Copy,
-        ensures { IfOk result (λ s. s ≡ block_puts self.now) }
+        requires { sectors ≤ 65536 }
+        ensures { IfOk result (λ s. s ≡ block_puts self.now sectors) }
     {
-        let list = Vec::from_slice(alloc, self.block_list())?;
-        let bytes = Vec::from_slice(alloc, self.block_bytes())?;
+        let list = Vec::from_slice(alloc, self.block_list(sectors))?;
+        let bytes = Vec::from_slice(alloc, self.block_bytes(sectors))?;
         Ok(Scatter::new(list, bytes))
     }
 }

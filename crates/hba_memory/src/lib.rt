@@ -17,7 +17,7 @@ mod room;
 mod scatter;
 mod table;
 
-pub use blocks::{BLOCK, Blocks};
+pub use blocks::Blocks;
 pub use fetch::{Fetch, is_short, is_write, moved_by};
 pub use gather::Gather;
 pub use lengths::total;

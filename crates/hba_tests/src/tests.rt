@@ -12,6 +12,7 @@ mod linux;
 mod linux_error;
 mod lists;
 mod logs;
+mod multiple;
 mod playing;
 mod power;
 mod powering_on;

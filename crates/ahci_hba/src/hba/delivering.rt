@@ -4,7 +4,7 @@ ghost use Rattle.std.specs.Prelude.{◌≡◌, ◌≤◌, ◌<◌, ◌^◌, not,
 ghost use Rattle.hba_memory.specs.Posting.{listed};
 ghost use Rattle.hba_memory.specs.Reading.{is_write};
 ghost use Rattle.ahci_table.specs.Fit.{IsFit};
-ghost use Rattle.ahci_hba.specs.Delivering.{answer_with, answered, beginning, bytes_for, closing, count_put, d2h_fis, delivered, dma_answer, done, finish_of, fis_ending, is_pio, page_answer, page_posting, queue_answer, queued_answer, queued_posting, read_answer, read_posting, received_put, sends_data, served_answer, setup_fis, setup_put};
+ghost use Rattle.ahci_hba.specs.Delivering.{answer_with, answered, beginning, beginning_by, bytes_for, closing, count_put, d2h_fis, delivered, dma_answer, done, finish_of, fis_ending, is_pio, page_answer, page_posting, queue_answer, queued_answer, queued_posting, read_answer, read_posting, received_put, sectors_answer, sends_data, served_answer, setup_fis, setup_put};
 ghost use Rattle.ahci_hba.specs.Stepping.{fault_if, may_deliver};
 ghost use Rattle.ahci_hba.specs.Transfer.{fits, moved_to};
 
@@ -17,7 +17,7 @@ use crate::transfer::Transfer;
 use crate::work::Work;
 use ahci_port::Window;
 use arrayvec::ArrayVec;
-use hba_command::{Action, PrdEntry, Protocol, Task, action_of};
+use hba_command::{Action, PrdEntry, Protocol, Task, action_of, block_sectors};
 use hba_memory::{Blocks, Posting, Scatter, SmallPut, is_write, total};
 use hba_regs::Slot;
 use sata_fis::{D2h, Fis, PioSetup};
@@ -80,9 +80,10 @@ fn finish_of(write: bool) -> Option<D2h>
     if write { Some(done()) } else { None }
 }
 
-/// A PIO Setup FIS for a block, to the host or to the device.
-fn setup_fis(d: bool, i: bool, e_status: u8) -> PioSetup
-    ensures { result ≡ setup_fis d i e_status }
+/// A PIO Setup FIS for a block of so many sectors, to the host or to the device.
+fn setup_fis(d: bool, i: bool, e_status: u8, sectors: u32) -> PioSetup
+    requires { sectors ≤ 16 }
+    ensures { result ≡ setup_fis d i e_status sectors }
 {
     PioSetup {
         i,
@@ -93,7 +94,7 @@ fn setup_fis(d: bool, i: bool, e_status: u8) -> PioSetup
         device: 0,
         count: 0,
         e_status,
-        bytes: 512,
+        bytes: (512 * sectors) as u16,
     }
 }
 
@@ -139,11 +140,13 @@ impl<A: Allocator, S: SectorStore> Hba<A, S> {
         Some(SmallPut::new(address, bytes))
     }
 
-    /// A PIO Setup FIS for a block, to the host or to the device.
-    pub(super) fn setup_put(&self, d: bool, i: bool, e_status: u8) -> Option<SmallPut>
-        ensures { listed result ≡ setup_put self.now.registers d i e_status }
+    /// A PIO Setup FIS for a block of so many sectors, to the host or to the device.
+    pub(super) fn setup_put(&self, d: bool, i: bool, e_status: u8, sectors: u32) -> Option<SmallPut>
+        requires { sectors ≤ 16 }
+        ensures { listed result ≡ setup_put self.now.registers d i e_status sectors }
     {
-        self.received_put(PIO_SETUP, Fis::PioSetup(setup_fis(d, i, e_status)).encode())
+        let fis = setup_fis(d, i, e_status, sectors);
+        self.received_put(PIO_SETUP, Fis::PioSetup(fis).encode())
     }
 
     /// What the answer to a queued command writes: a DMA Setup FIS, a read's data, and a Set Device Bits FIS.
@@ -175,7 +178,7 @@ impl<A: Allocator, S: SectorStore> Hba<A, S> {
         ensures { result ≡ page_posting self.now.registers slot content moved }
     {
         Posting::new(
-            self.setup_put(true, true, 0x40),
+            self.setup_put(true, true, 0x40, 1),
             content,
             self.count_put(slot, moved),
             None,
@@ -224,19 +227,40 @@ impl<A: Allocator, S: SectorStore> Hba<A, S> {
         self.answer(posting, Ending::of(whole, LastFis::Pio { slot }));
     }
 
-    /// A transfer by PIO begins, of so many blocks.
+    /// A transfer by PIO begins, of so many sectors in blocks of at most so many.
     pub(super) fn begin(
         &mut self,
         slot: Slot,
         write: bool,
-        blocks: u32,
+        sectors: u32,
+        most: u32,
         rest: Blocks<A>,
         finish: Option<D2h>,
     )
-        requires blocks { blocks ≤ 65536 }
-        ensures { self.new ≡ beginning self.old slot write blocks rest finish }
+        requires sectors { sectors ≤ 65536 }
+        requires some { 1 ≤ most }
+        requires most { most ≤ 16 }
+        ensures { self.new ≡ beginning self.old slot write sectors most rest finish }
     {
-        self.turn_to(Work::Pio(Transfer::new(slot, write, blocks, rest, finish)));
+        let transfer = Transfer::new(slot, write, sectors, most, rest, finish);
+        self.turn_to(Work::Pio(transfer));
+    }
+
+    /// The same for a command that moves its data so.
+    pub(super) fn begin_by(
+        &mut self,
+        slot: Slot,
+        protocol: Protocol,
+        write: bool,
+        sectors: u32,
+        rest: Blocks<A>,
+        finish: Option<D2h>,
+    )
+        requires sectors { sectors ≤ 65536 }
+        ensures { self.new ≡ beginning_by self.old slot protocol write sectors rest finish }
+    {
+        let most = block_sectors(self.device.multiple, protocol);
+        self.begin(slot, write, sectors, most, rest, finish);
     }
 }
 
@@ -283,6 +307,28 @@ impl<A: Allocator + Copy, S: SectorStore> Hba<A, S> {
         }
     }
 
+    /// The answer to a command that has moved so many sectors.
+    fn sectors_answer(
+        &mut self,
+        slot: Slot,
+        protocol: Protocol,
+        write: bool,
+        list: Vec<PrdEntry, A>,
+        bytes: Vec<u8, A>,
+        sectors: u32,
+    )
+        requires sectors { sectors ≤ 65536 }
+        ensures { self.new ≡ sectors_answer self.old slot protocol write list.items bytes.items sectors }
+    {
+        match protocol {
+            Protocol::Dma => self.dma_answer(slot, write, list, bytes, 512 * sectors),
+            Protocol::Pio | Protocol::Multiple => {
+                let rest = Blocks::new(list, bytes);
+                self.begin_by(slot, protocol, write, sectors, rest, finish_of(write));
+            }
+        }
+    }
+
     /// The answer to a command that the port has done, with a read's bytes: it does queued ones and those that move sectors.
     fn answer_with(
         &mut self,
@@ -300,21 +346,8 @@ impl<A: Allocator + Copy, S: SectorStore> Hba<A, S> {
             Action::Sectors {
                 write,
                 span,
-                protocol: Protocol::Dma,
-            } => self.dma_answer(slot, *write, list, bytes, 512 * span.sectors),
-            Action::Sectors {
-                write,
-                span,
-                protocol: Protocol::Pio,
-            } => {
-                self.begin(
-                    slot,
-                    *write,
-                    span.sectors,
-                    Blocks::new(list, bytes),
-                    finish_of(*write),
-                )
-            }
+                protocol,
+            } => self.sectors_answer(slot, *protocol, *write, list, bytes, span.sectors),
             Action::Page(_, _) | Action::Flush(_) | Action::Reply(_) | Action::Control { .. } => {
                 self.close(slot, 0, done())
             }

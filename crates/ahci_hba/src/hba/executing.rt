@@ -121,11 +121,13 @@ fn reads_error_log(action: &Action) -> bool
 
 impl<A: Allocator, S: SectorStore> Hba<A, S> {
     /// Why the device aborts a command that is not queued: queued ones are outstanding, or one has failed and its log is not read yet, but for a command
-    /// that reads it.
+    /// that reads it, or it is READ or WRITE MULTIPLE and no block size is set.
     fn is_aborted(&self, action: &Action) -> bool
         ensures { result ≡ is_aborted self.now action.now }
     {
-        self.is_queueing() || (self.port.halted() && !reads_error_log(action))
+        self.is_queueing()
+            || (self.port.halted() && !reads_error_log(action))
+            || self.has_no_blocks(action)
     }
 
     /// Whether a slot has a command that is read and not queued.
@@ -202,7 +204,7 @@ impl<A: Allocator + Copy, S: SectorStore> Hba<A, S> {
     {
         let (_, list) = self.take_command(slot);
         match protocol {
-            Protocol::Pio => self.page_answer(slot, list, page),
+            Protocol::Pio | Protocol::Multiple => self.page_answer(slot, list, page),
             Protocol::Dma => self.read_answer(slot, list, page, 512, done()),
         }
     }

@@ -113,8 +113,9 @@ impl<A: Allocator + Copy, S: SectorStore> Hba<A, S> {
     {
         match protocol {
             Protocol::Dma => self.read_answer(slot, list, bytes, 512 * sectors, fis),
-            Protocol::Pio => {
-                self.begin(slot, false, sectors, Blocks::new(list, bytes), Some(fis))
+            Protocol::Pio | Protocol::Multiple => {
+                let rest = Blocks::new(list, bytes);
+                self.begin_by(slot, protocol, false, sectors, rest, Some(fis));
             }
         }
     }

@@ -30,7 +30,7 @@ fn long_log_pages<A: Allocator + Copy>(
 ) -> Result<Vec<u8, A>, AllocError>
     requires deep { 1 ≤ depth }
     requires shallow { depth ≤ 32 }
-    requires pages { first + count ≤ 3 }
+    requires pages { first + count ≤ 7 }
     ensures { IfOk result (λ v. v.items ≡ long_log_pages log sectors depth device.now first count) }
 {
     let mut bytes = Vec::new(alloc);
@@ -59,12 +59,14 @@ impl<A: Allocator + Copy, S: SectorStore> Hba<A, S> {
 
     /// So many pages go to the driver for the command of a slot, by PIO one after the other; the slot is empty.
     fn give_pages(&mut self, slot: Slot, protocol: Protocol, bytes: Vec<u8, A>, count: u32)
-        requires { count ≤ 3 }
+        requires { count ≤ 7 }
         ensures { self.new ≡ pages_given self.old slot protocol (list_in (command_at self.old slot)) bytes.items count }
     {
         let (_, list) = self.take_command(slot);
         match protocol {
-            Protocol::Pio => self.begin(slot, false, count, Blocks::new(list, bytes), None),
+            Protocol::Pio | Protocol::Multiple => {
+                self.begin(slot, false, count, 1, Blocks::new(list, bytes), None);
+            }
             Protocol::Dma => self.read_answer(slot, list, bytes, 512 * count, done()),
         }
     }

@@ -4,14 +4,14 @@ ghost use Rattle.std.specs.Prelude.{◌≡◌, ◌<◌, true, None, Some, IfErr,
 ghost use Rattle.ncq_journal.specs.Work.{Read, Write, work_of};
 ghost use Rattle.ahci_port.specs.Faults.{op_refusal};
 ghost use Rattle.ahci_hba.specs.HbaView.{Fetched, command_of};
-ghost use Rattle.ahci_hba.specs.Queueing.{IsSent, Sends, asked_for, command_at, goes_to_port, has_tag, is_fetched, is_on, moves_sectors, put_back, work_for, work_of_action};
+ghost use Rattle.ahci_hba.specs.Queueing.{IsSent, Sends, asked_for, command_at, goes_to_port, has_no_blocks, has_tag, is_fetched, is_on, moves_sectors, put_back, work_for, work_of_action};
 ghost use Rattle.ahci_hba.specs.Stepping.{fault_if, may_send, work_at};
 
 use crate::command::{Command, Listed};
 use crate::fault::HbaFault;
 use crate::hba::Hba;
 use ahci_port::{Bytes, Op, Port, SubmitFault};
-use hba_command::{Action, PrdEntry, Span, Task, action_of};
+use hba_command::{Action, PrdEntry, Span, Task, action_of, lacks_blocks};
 use hba_regs::Slot;
 use ncq_core::SECTOR;
 use sata_fis::Queued;
@@ -111,14 +111,27 @@ impl<A: Allocator, S: SectorStore> Hba<A, S> {
         u32::from(queued.tag) < self.depth
     }
 
+    /// Whether a command is READ or WRITE MULTIPLE, while SET MULTIPLE MODE has set no block size.
+    pub(super) fn has_no_blocks(&self, action: &Action) -> bool
+        ensures { result ≡ has_no_blocks self.now action.now }
+    {
+        match action {
+            Action::Sectors { protocol, .. } => lacks_blocks(self.device.multiple, *protocol),
+            Action::Queue(_) | Action::Page(_, _) | Action::Flush(_) | Action::Reply(_) => false,
+            Action::Store(_, _) | Action::Control { .. } | Action::Abort => false,
+        }
+    }
+
     /// Whether the port moves sectors for a command: a queued one whose tag the device has, or one of sectors of the disk while no queued one is
-    /// outstanding.
+    /// outstanding, whose blocks have a size.
     fn moves_sectors(&self, action: &Action) -> bool
         ensures { result ≡ moves_sectors self.now action.now }
     {
         match action {
             Action::Queue(queued) => self.has_tag(queued),
-            Action::Sectors { span, .. } => self.is_on(span) && !self.is_queueing(),
+            Action::Sectors { span, .. } => {
+                self.is_on(span) && !self.is_queueing() && !self.has_no_blocks(action)
+            }
             Action::Page(_, _) | Action::Flush(_) | Action::Reply(_) | Action::Control { .. } =>
                 false,
             Action::Store(_, _) | Action::Abort => false,
@@ -126,7 +139,7 @@ impl<A: Allocator, S: SectorStore> Hba<A, S> {
     }
 
     /// Whether the command of a slot goes to the port: it is read, and is queued with a tag that the device has, or moves sectors of the
-    /// disk while no queued one is outstanding.
+    /// disk while no queued one is outstanding, and is not READ or WRITE MULTIPLE without a block size.
     pub fn goes_to_port(&self, slot: Slot) -> bool
         ensures { result ≡ goes_to_port self.now (command_at self.now slot) }
     {

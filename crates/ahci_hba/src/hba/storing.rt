@@ -51,9 +51,9 @@ impl<A: Allocator + Copy, S: SectorStore> Hba<A, S> {
         ensures { self.new ≡ taken_by self.old slot protocol blocks fis }
     {
         match protocol {
-            Protocol::Pio => {
+            Protocol::Pio | Protocol::Multiple => {
                 let none = Blocks::new(Vec::new(self.alloc), Vec::new(self.alloc));
-                self.begin(slot, true, blocks, none, Some(fis));
+                self.begin(slot, true, blocks, 1, none, Some(fis));
             }
             Protocol::Dma => self.close(slot, 512 * blocks, fis),
         }

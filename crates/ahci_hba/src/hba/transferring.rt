@@ -1,9 +1,9 @@
 //! How the data of a command by PIO move, block by block (Serial ATA, "PIO Setup"; ACS-3, "PIO data-in command protocol").
 
-ghost use Rattle.std.specs.Prelude.{◌≡◌, ◌<◌, false, true, IfOk, OnErr, OnOk};
+ghost use Rattle.std.specs.Prelude.{◌≡◌, ◌<◌, ◌≤◌, false, true, IfOk, OnErr, OnOk};
 ghost use Rattle.hba_memory.specs.Blocks.{block_puts};
 ghost use Rattle.ahci_hba.specs.Delivering.{block_content, block_in, block_out, block_posting, content_of, finishing, going_on, gone_on, only_before, sends_data, setup_put, stepped_on};
-ghost use Rattle.ahci_hba.specs.Transfer.{next_block, sends_block};
+ghost use Rattle.ahci_hba.specs.Transfer.{next_block, next_sectors, sends_block};
 
 use crate::ending::Ending;
 use crate::hba::Hba;
@@ -18,11 +18,11 @@ use std::mem;
 impl<A: Allocator, S: SectorStore> Hba<A, S> {
     /// What a block to the driver writes: a PIO Setup FIS, the block, and PRDBC with the bytes so far.
     fn block_posting(&self, transfer: &Transfer<A>, content: Scatter<A>, e_status: u8) -> Posting<A>
-        requires { content ≡ block_puts transfer.now.rest }
+        requires { content ≡ block_puts transfer.now.rest (next_sectors transfer.now) }
         ensures { result ≡ block_posting self.now.registers transfer.now e_status }
     {
         Posting::new(
-            self.setup_put(true, true, e_status),
+            self.setup_put(true, true, e_status, transfer.next_sectors()),
             content,
             self.count_put(transfer.slot(), transfer.moved_so_far()),
             None,
@@ -32,7 +32,7 @@ impl<A: Allocator, S: SectorStore> Hba<A, S> {
     /// A block of a read.
     fn block_in(&mut self, transfer: Transfer<A>, content: Scatter<A>)
         requires left { 0 < transfer.left }
-        requires content { content ≡ block_puts transfer.rest }
+        requires content { content ≡ block_puts transfer.rest (next_sectors transfer) }
         ensures { self.new ≡ block_in self.old transfer }
     {
         let slot = transfer.slot();
@@ -67,23 +67,25 @@ fn block_content<A: Allocator + Copy>(
     if !transfer.sends_block() {
         return Ok(Scatter::new(Vec::new(alloc), Vec::new(alloc)));
     }
-    transfer.rest().block(alloc)
+    transfer.rest().block(alloc, transfer.next_sectors())
 }
 
 impl<A: Allocator + Copy, S: SectorStore> Hba<A, S> {
-    /// An answer of a PIO Setup FIS alone, for a block to the device.
-    fn out_posting(&self, i: bool) -> Posting<A>
-        ensures { result ≡ only_before (setup_put self.now.registers false i 0xC0) }
+    /// An answer of a PIO Setup FIS alone, for a block of so many sectors to the device.
+    fn out_posting(&self, i: bool, sectors: u32) -> Posting<A>
+        requires { sectors ≤ 16 }
+        ensures { result ≡ only_before (setup_put self.now.registers false i 0xC0 sectors) }
     {
         let content = Scatter::new(Vec::new(self.alloc), Vec::new(self.alloc));
-        Posting::new(self.setup_put(false, i, 0xC0), content, None, None)
+        Posting::new(self.setup_put(false, i, 0xC0, sectors), content, None, None)
     }
 
-    /// A block of a write, which the transfer has behind it then.
-    fn block_out(&mut self, transfer: Transfer<A>)
-        ensures { self.new ≡ block_out self.old transfer }
+    /// A block of a write, of so many sectors, which the transfer has behind it then.
+    fn block_out(&mut self, sectors: u32, transfer: Transfer<A>)
+        requires { sectors ≤ 16 }
+        ensures { self.new ≡ block_out self.old sectors transfer }
     {
-        let posting = self.out_posting(transfer.has_interrupt());
+        let posting = self.out_posting(transfer.has_interrupt(), sectors);
         self.block(posting, transfer);
     }
 
@@ -105,7 +107,8 @@ impl<A: Allocator + Copy, S: SectorStore> Hba<A, S> {
         if transfer.left() == 0 {
             self.finish(transfer);
         } else if transfer.is_write() {
-            self.block_out(next_of(transfer));
+            let sectors = transfer.next_sectors();
+            self.block_out(sectors, next_of(transfer));
         } else {
             self.block_in(transfer, content);
         }

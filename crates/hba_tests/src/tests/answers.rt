@@ -13,7 +13,7 @@ use std::test::Fail;
 type Answered = ([u32; 4], u8, u8, u8, u8);
 
 /// Commands to a disk of 8 sectors, by their titles. None of them moves data.
-static ANSWERS: [(&str, Answered); 37] = [
+static ANSWERS: [(&str, Answered); 44] = [
     ("FLUSH CACHE", ([0x2780_E700, 0, 0, 0], 0x40, 0, 0, 0)),
     (
         "FLUSH CACHE EXT",
@@ -82,6 +82,34 @@ static ANSWERS: [(&str, Answered); 37] = [
         "IDENTIFY PACKET DEVICE",
         ([0x2780_A100, 0, 0, 0], 0x41, 4, 1, 1),
     ),
+    (
+        "SET MULTIPLE MODE of 16 sectors",
+        ([0x2780_C600, 0xA0, 0, 0x1000_0000], 0x40, 0, 0, 0),
+    ),
+    (
+        "SET MULTIPLE MODE of three sectors",
+        ([0x2780_C600, 0xA0, 0, 0x0300_0000], 0x41, 4, 0, 0),
+    ),
+    (
+        "SET MULTIPLE MODE of 32 sectors",
+        ([0x2780_C600, 0xA0, 0, 0x2000_0000], 0x41, 4, 0, 0),
+    ),
+    (
+        "SECURITY FREEZE LOCK",
+        ([0x2780_F500, 0xA0, 0, 0], 0x41, 4, 0, 0),
+    ),
+    (
+        "SET MAX ADDRESS",
+        ([0x2780_F900, 0x0600_0040, 0, 0], 0x41, 4, 0, 0),
+    ),
+    (
+        "SET MAX ADDRESS EXT",
+        ([0x2780_3700, 0x0600_0040, 0, 0], 0x41, 4, 0, 0),
+    ),
+    (
+        "WRITE UNCORRECTABLE EXT",
+        ([0x2780_4555, 0x0600_0040, 0, 0x0100_0000], 0x41, 4, 0, 0),
+    ),
     ("NOP", ([0x2780_0000, 0, 0, 0], 0x41, 4, 0, 0)),
     (
         "SMART READ DATA without its signature",
@@ -124,8 +152,8 @@ static ANSWERS: [(&str, Answered); 37] = [
         ([0x2780_2F00, 0x0001_0000, 0, 0x0100_0000], 0x41, 4, 0, 0),
     ),
     (
-        "READ LOG EXT of page 03h of log 30h",
-        ([0x2780_2F00, 0x3003_0000, 0, 0x0100_0000], 0x41, 4, 0, 0),
+        "READ LOG EXT of page 07h of log 30h",
+        ([0x2780_2F00, 0x3007_0000, 0, 0x0100_0000], 0x41, 4, 0, 0),
     ),
     (
         "READ LOG EXT of page 0100h of log 30h",
@@ -138,12 +166,12 @@ static ANSWERS: [(&str, Answered); 37] = [
         ),
     ),
     (
-        "READ LOG EXT of four pages of log 30h",
-        ([0x2780_2F00, 0x3000_0000, 0, 0x0400_0000], 0x41, 4, 0, 0),
+        "READ LOG EXT of eight pages of log 30h",
+        ([0x2780_2F00, 0x3000_0000, 0, 0x0800_0000], 0x41, 4, 0, 0),
     ),
     (
         "READ LOG DMA EXT beyond log 30h",
-        ([0x2780_4700, 0x3002_0000, 0, 0x0200_0000], 0x41, 4, 0, 0),
+        ([0x2780_4700, 0x3006_0000, 0, 0x0200_0000], 0x41, 4, 0, 0),
     ),
     (
         "DATA SET MANAGEMENT without TRIM",

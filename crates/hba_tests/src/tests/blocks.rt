@@ -10,9 +10,9 @@ use crate::tests::setting::{COMRESET, DATA, LIST, MEMORY, RECEIVED, START, TABLE
 use std::test::Fail;
 
 /// Three sectors, in two pieces: the second sector lies in both.
-const THREE: Pieces = These(&[(DATA, 700), (DATA + 0x800, 836)]);
+pub const THREE: Pieces = These(&[(DATA, 700), (DATA + 0x800, 836)]);
 
-const FILLED: &[Row] = &[
+pub const FILLED: &[Row] = &[
     Fills(DATA, 512, 0x11),
     Fills(DATA + 512, 188, 0x22),
     Fills(DATA + 0x800, 324, 0x22),
@@ -22,7 +22,7 @@ const FILLED: &[Row] = &[
 ];
 
 /// The command is read, sent, taken and served; no FIS has come.
-const SERVED: &[Row] = &[
+pub const SERVED: &[Row] = &[
     Writes(PX_CI, 1),
     Steps(0),
     Steps(0),

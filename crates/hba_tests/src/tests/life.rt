@@ -203,7 +203,7 @@ const ALL_LOGGED: &[Step] = &[
     (Supply, 0),
     (Execute(0), 3),
     (Settle, 0),
-    (Driver(Has(DATA, &[1, 0, 0, 0, 0, 0, 0, 0, 3, 0, 1, 2])), 0),
+    (Driver(Has(DATA, &[1, 0, 0, 0, 0, 0, 0, 0, 7, 0, 1, 2])), 0),
 ];
 
 /// Commands that are dropped: by ST, by the link, by a software reset, and by the HBA's.

@@ -7,7 +7,7 @@ use crate::tests::registers::{PX_CI, PX_IS, PX_TFD};
 use crate::tests::setting::{DATA, IDENTIFY, LIST, MEMORY, ONE, RECEIVED, SECTOR, START, TABLE};
 use std::test::Fail;
 
-/// The directory, by PIO and by DMA: logs 03h, 07h, 10h and 11h of one page, log 04h of two, log 30h of three.
+/// The directory, by PIO and by DMA: logs 03h, 07h, 10h and 11h of one page, log 04h of two, log 30h of seven.
 const DIRECTORY: &[Row] = &[
     Lays(0, ONE, TABLE, [0x2780_2F00, 0, 0, 0x0100_0000], SECTOR),
     Writes(PX_CI, 1),
@@ -17,7 +17,7 @@ const DIRECTORY: &[Row] = &[
     HasAll(DATA + 0x10, 0x10, 0),
     Has(DATA + 0x20, &[1, 0, 1, 0]),
     HasAll(DATA + 0x24, 0x3C, 0),
-    Has(DATA + 0x60, &[3, 0]),
+    Has(DATA + 0x60, &[7, 0]),
     HasAll(DATA + 0x62, 512 - 0x62, 0),
     Fills(DATA, 512, 0xEE),
     Writes(PX_IS, 0xFFFF_FFFF),
@@ -25,7 +25,7 @@ const DIRECTORY: &[Row] = &[
     Writes(PX_CI, 1),
     Does(0),
     Reads(PX_IS, 1),
-    Has(DATA + 0x60, &[3, 0]),
+    Has(DATA + 0x60, &[7, 0]),
     Has(LIST + 4, &[0, 2, 0, 0]),
 ];
 
@@ -34,12 +34,12 @@ const WORDS: &[Row] = &[
     Lays(0, ONE, TABLE, IDENTIFY, SECTOR),
     Writes(PX_CI, 1),
     Does(0),
-    Has(DATA + 2 * 84, &[0x63, 0x40]),
-    Has(DATA + 2 * 86, &[0x00, 0xB4, 0x63, 0x40]),
+    Has(DATA + 2 * 84, &[0x63, 0x41]),
+    Has(DATA + 2 * 86, &[0x00, 0xB4, 0x63, 0x41]),
     Has(DATA + 2 * 119, &[0x08, 0x40, 0x08, 0x40]),
 ];
 
-/// Page 00h: a header with revision 1, three pages, and their numbers.
+/// Page 00h: a header with revision 1, seven pages, and their numbers.
 const SUPPORTED: &[Row] = &[
     Fills(DATA, 512, 0xEE),
     Writes(PX_IS, 0xFFFF_FFFF),
@@ -58,9 +58,15 @@ const SUPPORTED: &[Row] = &[
     Has(LIST + 4, &[0, 2, 0, 0]),
     Has(RECEIVED + 0x20, &[0x5F, 0x60, 0x48, 0]),
     Has(RECEIVED + 0x2F, &[0x40, 0, 2]),
-    Has(DATA, &[1, 0, 0, 0, 0, 0, 0, 0, 3, 0, 1, 2]),
-    HasAll(DATA + 12, 500, 0),
+    Has(DATA, &[1, 0, 0, 0, 0, 0, 0, 0, 7, 0, 1, 2, 3, 4, 5, 6]),
+    HasAll(DATA + 16, 496, 0),
 ];
+
+/// The world wide name of the serial number and the model number, in words 108 to 111: NAA 3, and a number in base 257.
+const NAME: &[u8] = &[0xDC, 0x35, 0xCA, 0x9A, 0x33, 0x3C, 0x99, 0xC9];
+
+/// The same as a number, its low byte first.
+const NAME_IN_LOG: &[u8] = &[0x99, 0xC9, 0x33, 0x3C, 0xCA, 0x9A, 0xDC, 0x35];
 
 /// Page 01h: what IDENTIFY DEVICE reads, of 8 sectors and 32 tags.
 const COPY: &[Row] = &[
@@ -77,9 +83,10 @@ const COPY: &[Row] = &[
     Has(DATA + 2 * 27, b"OSTFAWER"),
     Has(DATA + 2 * 60, &[8, 0, 0, 0]),
     Has(DATA + 2 * 75, &[31, 0]),
-    Has(DATA + 2 * 82, &[0x49, 0x30, 0x08, 0x74, 0x63, 0x40]),
+    Has(DATA + 2 * 82, &[0x49, 0x30, 0x08, 0x74, 0x63, 0x41]),
     Has(DATA + 2 * 88, &[0x3F, 0x20]),
     Has(DATA + 2 * 100, &[8, 0, 0, 0, 0, 0, 0, 0]),
+    Has(DATA + 2 * 108, NAME),
     Has(DATA + 2 * 119, &[0x08, 0x40, 0x08, 0x40]),
 ];
 
@@ -101,7 +108,7 @@ const CAPACITY: &[Row] = &[
     HasAll(DATA + 24, 488, 0),
 ];
 
-/// All three pages by PIO, a block each, in pieces that end within pages.
+/// The first three pages by PIO, a block each, in pieces that end within pages.
 const ALL_BY_PIO: &[Row] = &[
     Fills(DATA, 0x1000, 0xEE),
     Writes(PX_IS, 0xFFFF_FFFF),
@@ -126,7 +133,7 @@ const ALL_BY_PIO: &[Row] = &[
     Reads(PX_CI, 0),
     Has(LIST + 4, &[0, 6, 0, 0]),
     Has(RECEIVED + 0x2F, &[0x40, 0, 2]),
-    Has(DATA, &[1, 0, 0, 0, 0, 0, 0, 0, 3, 0, 1, 2]),
+    Has(DATA, &[1, 0, 0, 0, 0, 0, 0, 0, 7, 0, 1, 2]),
     Has(DATA + 512 + 2 * 60, &[8, 0, 0, 0]),
     Has(DATA + 1024, &[1, 0, 2, 0, 0, 0, 0, 0x80, 8, 0]),
     HasAll(DATA + 1536, 512, 0xEE),
@@ -154,13 +161,54 @@ const TWO_BY_DMA: &[Row] = &[
     HasAll(DATA + 1024, 512, 0xEE),
 ];
 
+/// Pages 03h to 06h by DMA, each with its header.
+const THE_OTHERS: &[Row] = &[
+    Fills(DATA, 0x1000, 0xEE),
+    Lays(
+        0,
+        ONE,
+        TABLE,
+        [0x2780_4700, 0x3003_0000, 0, 0x0400_0000],
+        These(&[(DATA, 2048)]),
+    ),
+    Writes(PX_CI, 1),
+    Does(0),
+    Row::Answered(0x40, 0, 0, 0),
+    Has(LIST + 4, &[0, 8, 0, 0]),
+    Has(DATA, &[1, 0, 3, 0, 0, 0, 0, 0x80]),
+    Has(DATA + 8, &[0x84, 0x19, 0xD1, 0x1A, 0x18, 0, 0, 0x80]),
+    HasAll(DATA + 16, 15, 0),
+    Has(DATA + 31, &[0x80]),
+    HasAll(DATA + 32, 24, 0),
+    Has(DATA + 56, NAME_IN_LOG),
+    Has(DATA + 64, &[0, 0, 0, 0, 0, 0, 0, 0x80]),
+    Has(DATA + 72, &[1, 0, 0, 0, 0, 0, 0, 0x80]),
+    HasAll(DATA + 80, 432, 0),
+    Has(DATA + 512, &[1, 0, 4, 0, 0, 0, 0, 0x80]),
+    Has(DATA + 520, &[0, 3, 0, 0, 0, 0, 0, 0x80]),
+    Has(DATA + 528, &[0, 0, 0, 0, 0, 0, 0, 0x80]),
+    HasAll(DATA + 536, 488, 0),
+    Has(DATA + 1024, &[1, 0, 5, 0, 0, 0, 0, 0x80]),
+    Has(DATA + 1032, b"00000010            "),
+    Has(DATA + 1056, b".1 0    "),
+    Has(DATA + 1072, b"OSTFAWERN QCD SI K"),
+    Has(DATA + 1536, &[1, 0, 6, 0, 0, 0, 0, 0x80]),
+    HasAll(DATA + 1544, 15, 0),
+    Has(DATA + 1559, &[0x80]),
+    Has(DATA + 1576, &[0, 0, 0, 0, 0, 0, 0, 0x80]),
+    Has(DATA + 1584, &[0, 0, 0, 0, 0, 0, 0, 0x80]),
+    HasAll(DATA + 1592, 456, 0),
+    HasAll(DATA + 2048, 512, 0xEE),
+];
+
 static READING: Story = Story {
     name: "logs are read",
     sectors: 8,
     depth: 32,
     memory: MEMORY,
     parts: &[
-        START, DIRECTORY, WORDS, SUPPORTED, COPY, CAPACITY, ALL_BY_PIO, TWO_BY_DMA, SUPPORTED,
+        START, DIRECTORY, WORDS, SUPPORTED, COPY, CAPACITY, ALL_BY_PIO, TWO_BY_DMA, THE_OTHERS,
+        SUPPORTED,
     ],
 };
 

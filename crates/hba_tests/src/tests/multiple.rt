@@ -1,0 +1,317 @@
+//! READ and WRITE MULTIPLE, whose blocks have as many sectors as SET MULTIPLE MODE has set (ACS-3, by the commands' titles; Serial ATA, "PIO Setup").
+
+use crate::tests::blocks::{FILLED, SERVED, THREE};
+use crate::tests::playing::Pieces::These;
+use crate::tests::playing::Row::{Does, Fills, Has, HasAll, Lays, Reads, Sector, Steps, Writes};
+use crate::tests::playing::{Row, Story, plays};
+use crate::tests::registers::{PX_CI, PX_IS, PX_TFD};
+use crate::tests::resets::SOFTWARE_RESET;
+use crate::tests::setting::{
+    COMRESET, DATA, IDENTIFY, LIST, MEMORY, NO_PIECES, NONE, ONE, RECEIVED, RESTART, SECTOR, START,
+    TABLE,
+};
+use std::test::Fail;
+
+/// IDENTIFY DEVICE: a block has 16 sectors at most (word 47), and none is set (word 59). Ultra DMA mode 5 is selected (words 63 and 88).
+const UNSET: &[Row] = &[
+    Lays(0, ONE, TABLE, IDENTIFY, SECTOR),
+    Writes(PX_CI, 1),
+    Does(0),
+    Has(DATA + 2 * 47, &[0x10, 0x80]),
+    Has(DATA + 2 * 59, &[0, 0]),
+    Has(DATA + 2 * 63, &[7, 0]),
+    Has(DATA + 2 * 88, &[0x3F, 0x20]),
+];
+
+/// While none is set, READ MULTIPLE is aborted, and WRITE MULTIPLE changes no sector.
+const READ_ABORTED: &[Row] = &[
+    Fills(DATA, 512, 0xEE),
+    Lays(
+        0,
+        ONE,
+        TABLE,
+        [0x2780_C400, 0x0200_0040, 0, 0x0100_0000],
+        SECTOR,
+    ),
+    Writes(PX_CI, 1),
+    Does(0),
+    Row::Answered(0x41, 4, 0, 0),
+    Reads(PX_CI, 1),
+    HasAll(DATA, 512, 0xEE),
+];
+
+const WRITE_ABORTED: &[Row] = &[
+    Lays(
+        0,
+        ONE,
+        TABLE,
+        [0x2780_C500, 0x0200_0040, 0, 0x0100_0000],
+        SECTOR,
+    ),
+    Writes(PX_CI, 1),
+    Does(0),
+    Row::Answered(0x41, 4, 0, 0),
+    Sector(2, 0),
+];
+
+/// SET MULTIPLE MODE of two sectors, which word 59 shows.
+const SETS_TWO: &[Row] = &[
+    Lays(
+        0,
+        NONE,
+        TABLE,
+        [0x2780_C600, 0xA0, 0, 0x0200_0000],
+        NO_PIECES,
+    ),
+    Writes(PX_CI, 1),
+    Does(0),
+    Row::Answered(0x40, 0, 0, 0),
+];
+
+const HAS_TWO: &[Row] = &[
+    Lays(0, ONE, TABLE, IDENTIFY, SECTOR),
+    Writes(PX_CI, 1),
+    Does(0),
+    Has(DATA + 2 * 59, &[2, 1]),
+];
+
+/// WRITE MULTIPLE of three sectors: a block of two, whose PIO Setup FIS has no I and 1,024 bytes, and one of one.
+const WRITTEN: &[Row] = &[Lays(
+    0,
+    0x0002_0045,
+    TABLE,
+    [0x2780_C500, 0x0200_0040, 0, 0x0300_0000],
+    THREE,
+)];
+
+const BLOCKS_OUT: &[Row] = &[
+    Steps(0),
+    Has(
+        RECEIVED + 0x20,
+        &[
+            0x5F, 0x00, 0x48, 0, 0, 0, 0, 0, 0, 0, 0, 0, 0, 0, 0, 0xC0, 0, 4, 0, 0,
+        ],
+    ),
+    Reads(PX_TFD, 0xC0),
+    Reads(PX_IS, 0),
+    Reads(PX_CI, 1),
+    Steps(0),
+    Has(RECEIVED + 0x20, &[0x5F, 0x40, 0x48]),
+    Has(RECEIVED + 0x2F, &[0xC0, 0, 2]),
+    Reads(PX_TFD, 0xC0),
+    Reads(PX_IS, 2),
+    Reads(PX_CI, 1),
+    Writes(PX_IS, 2),
+    Steps(0),
+    Row::Answered(0x40, 0, 0, 0),
+    Reads(PX_IS, 1),
+    Reads(PX_CI, 0),
+    Has(LIST + 4, &[0, 6, 0, 0]),
+    Sector(1, 0),
+    Sector(2, 0x11),
+    Sector(3, 0x22),
+    Sector(4, 0x33),
+    Sector(5, 0),
+];
+
+/// READ MULTIPLE of the same: PSS comes with each block, and E_Status of the last one ends the command.
+const READ: &[Row] = &[
+    Fills(DATA, 0x1000, 0xEE),
+    Fills(RECEIVED, 256, 0xEE),
+    Writes(PX_IS, 0xFFFF_FFFF),
+    Lays(
+        0,
+        0x0002_0005,
+        TABLE,
+        [0x2780_C400, 0x0200_0040, 0, 0x0300_0000],
+        THREE,
+    ),
+];
+
+const BLOCKS_IN: &[Row] = &[
+    Steps(0),
+    Has(
+        RECEIVED + 0x20,
+        &[
+            0x5F, 0x60, 0x48, 0, 0, 0, 0, 0, 0, 0, 0, 0, 0, 0, 0, 0xC0, 0, 4, 0, 0,
+        ],
+    ),
+    Reads(PX_TFD, 0xC0),
+    Reads(PX_IS, 2),
+    Reads(PX_CI, 1),
+    Has(LIST + 4, &[0, 4, 0, 0]),
+    HasAll(DATA, 512, 0x11),
+    HasAll(DATA + 512, 188, 0x22),
+    HasAll(DATA + 0x800, 324, 0x22),
+    HasAll(DATA + 0x944, 512, 0xEE),
+    Writes(PX_IS, 2),
+    Steps(0),
+    Has(RECEIVED + 0x2F, &[0x40, 0, 2]),
+    Reads(PX_TFD, 0x40),
+    Reads(PX_IS, 2),
+    Reads(PX_CI, 0),
+    Has(LIST + 4, &[0, 6, 0, 0]),
+    HasAll(DATA + 0x944, 512, 0x33),
+    HasAll(RECEIVED + 0x40, 20, 0xEE),
+];
+
+/// READ MULTIPLE past the last sector: a block of two sectors, and one of the last one; then the FIS with IDNF.
+const READ_PAST: &[Row] = &[
+    Fills(DATA, 2048, 0xAA),
+    Lays(
+        0,
+        ONE,
+        TABLE,
+        [0x2780_C400, 0x0500_0040, 0, 0x0400_0000],
+        These(&[(DATA, 2048)]),
+    ),
+    Writes(PX_CI, 1),
+    Does(0),
+    Row::Answered(0x41, 0x10, 8, 0),
+    Reads(PX_CI, 1),
+    Has(LIST + 4, &[0, 6, 0, 0]),
+    Has(RECEIVED + 0x2F, &[0xC0, 0, 2]),
+    HasAll(DATA, 1536, 0),
+    HasAll(DATA + 1536, 512, 0xAA),
+];
+
+/// Blocks of 16 sectors at most: WRITE MULTIPLE FUA EXT and READ MULTIPLE EXT of eight sectors have one block of 4,096 bytes, and so has WRITE MULTIPLE EXT.
+const SETS_SIXTEEN: &[Row] = &[
+    Lays(
+        0,
+        NONE,
+        TABLE,
+        [0x2780_C600, 0xA0, 0, 0x1000_0000],
+        NO_PIECES,
+    ),
+    Writes(PX_CI, 1),
+    Does(0),
+    Fills(DATA, 4096, 0x44),
+    Lays(
+        0,
+        0x0001_0045,
+        TABLE,
+        [0x2780_CE00, 0x0000_0040, 0, 0x0800_0000],
+        These(&[(DATA, 4096)]),
+    ),
+    Writes(PX_CI, 1),
+    Does(0),
+    Row::Answered(0x40, 0, 0, 0),
+    Has(
+        RECEIVED + 0x20,
+        &[
+            0x5F, 0x00, 0x48, 0, 0, 0, 0, 0, 0, 0, 0, 0, 0, 0, 0, 0xC0, 0, 0x10, 0, 0,
+        ],
+    ),
+    Sector(0, 0x44),
+    Sector(7, 0x44),
+    Fills(DATA, 4096, 0x55),
+    Lays(
+        0,
+        0x0001_0045,
+        TABLE,
+        [0x2780_3900, 0x0600_0040, 0, 0x0200_0000],
+        These(&[(DATA, 1024)]),
+    ),
+    Writes(PX_CI, 1),
+    Does(0),
+    Has(RECEIVED + 0x2F, &[0xC0, 0, 4]),
+    Sector(5, 0x44),
+    Sector(6, 0x55),
+    Lays(
+        0,
+        ONE,
+        TABLE,
+        [0x2780_2900, 0x0000_0040, 0, 0x0800_0000],
+        These(&[(DATA, 4096)]),
+    ),
+    Writes(PX_CI, 1),
+    Does(0),
+    Reads(PX_CI, 0),
+    Has(RECEIVED + 0x2F, &[0x40, 0, 0x10]),
+    HasAll(DATA, 3072, 0x44),
+    HasAll(DATA + 3072, 1024, 0x55),
+];
+
+/// SET FEATURES 03h selects multiword DMA mode 2, and CCh says that a software reset reverts to the defaults.
+const REVERTS: &[Row] = &[
+    Lays(
+        0,
+        NONE,
+        TABLE,
+        [0x2780_EF03, 0xA0, 0, 0x2200_0000],
+        NO_PIECES,
+    ),
+    Writes(PX_CI, 1),
+    Does(0),
+    Lays(0, ONE, TABLE, IDENTIFY, SECTOR),
+    Writes(PX_CI, 1),
+    Does(0),
+    Has(DATA + 2 * 63, &[7, 4]),
+    Has(DATA + 2 * 88, &[0x3F, 0]),
+    Lays(0, NONE, TABLE, [0x2780_EFCC, 0xA0, 0, 0], NO_PIECES),
+    Writes(PX_CI, 1),
+    Does(0),
+];
+
+/// SET MULTIPLE MODE of none disables the commands.
+const SETS_NONE: &[Row] = &[
+    Lays(0, NONE, TABLE, [0x2780_C600, 0xA0, 0, 0], NO_PIECES),
+    Writes(PX_CI, 1),
+    Does(0),
+    Row::Answered(0x40, 0, 0, 0),
+];
+
+static STORY: Story = Story {
+    name: "READ and WRITE MULTIPLE",
+    sectors: 8,
+    depth: 32,
+    memory: MEMORY,
+    parts: &[
+        START,
+        UNSET,
+        READ_ABORTED,
+        RESTART,
+        WRITE_ABORTED,
+        RESTART,
+        SETS_TWO,
+        HAS_TWO,
+        FILLED,
+        WRITTEN,
+        SERVED,
+        BLOCKS_OUT,
+        READ,
+        SERVED,
+        BLOCKS_IN,
+        SOFTWARE_RESET,
+        HAS_TWO,
+        COMRESET,
+        UNSET,
+        READ_ABORTED,
+        RESTART,
+        SETS_TWO,
+        REVERTS,
+        HAS_TWO,
+        SOFTWARE_RESET,
+        UNSET,
+        SETS_SIXTEEN,
+        SETS_TWO,
+        SETS_NONE,
+        UNSET,
+        READ_ABORTED,
+    ],
+};
+
+static PAST: Story = Story {
+    name: "READ MULTIPLE past the last sector",
+    sectors: 8,
+    depth: 32,
+    memory: MEMORY,
+    parts: &[START, SETS_TWO, READ_PAST],
+};
+
+#[test]
+fn read_and_write_multiple_move_in_blocks_of_several_sectors(rt: HostRuntime) -> Result<(), Fail> {
+    plays(&rt, rt.alloc(), &STORY)?;
+    plays(&rt, rt.alloc(), &PAST)
+}
