@@ -11,7 +11,9 @@ pub mod Addressing
 pub mod Power
 pub mod Words
 pub mod Identity
+pub mod PhyEvents
 pub mod Device
 pub mod Pages
+pub mod NotQueued
 pub mod LongLogs
 pub mod DiskPages
