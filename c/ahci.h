@@ -684,7 +684,7 @@ uint32_t ahci_hba_fail_interface(ahci_hba *hba, uint32_t error, uint32_t is_fata
 uint32_t ahci_hba_sign_as(ahci_hba *hba, uint32_t kind);
 
 /* FISes that no command asks for, written to the received FIS area before they take effect: a Set Device Bits FIS with I that names no tag, and with N unless
-   `notification` is 0 (SDBS; N has no effect, since CAP.SSNTF is 0); a D2H Register FIS with I, status 50h and error 00h (DHRS); and one of a type that isn't known, of these
+   `notification` is 0 (SDBS; N has no effect, since CAP.SSNTF is 0); a D2H Register FIS with I, status 50h and error 00h (DHRS, while ST is 1); and one of a type that isn't known, of these
    28 bytes at most, from the type on (UFS and DIAG.F). AHCI_NOT_READY while something is read or written, without a link, while FRE is 0 or the port waits for ST to be
    cleared, and, of a Register FIS, while BSY or DRQ is 1. AHCI_WRONG_LENGTH. */
 uint32_t ahci_hba_receive_bits(ahci_hba *hba, uint32_t notification);

@@ -307,6 +307,7 @@ static void command(void)
     if (log) {
         static const uint8_t logs[] = { 0x10, 0x30, 0x10, 0x00, 0x03, 0x04, 0x07, 0x11 };
         const bool is_long = many % 4 == 1 || many % 8 == 5;
+        fis[3] = far >> 4 & 1; /* of log 11h: its counters are reset */
         fis[4] = many % 4 == 1 ? 0x30 : logs[many % 8];
         fis[5] = is_long ? far % 8 : 0;
         fis[12] = is_long ? 1 + far / 4 % 3 : many % 16 ? 1 : 2;
@@ -648,6 +649,7 @@ int main(int count, char **arguments)
         counted.found, counted.pulled, counted.tries, counted.broken);
     printf("and the disk took data that are no sectors %lu times\n", counted.stored);
     printf("after a loss of power a sector might have had some bytes %lu times, and %lu times not\n", counted.left, counted.lost_bytes);
+    printf("%lu commands came under queued ones and aborted them, and %lu queued ones failed with ICRC\n", counted.mixed, counted.icrc);
     printf("%lu commands ended with another status, %lu signatures were not a disk's, and %lu FISes came that no command asks for\n", counted.ended, counted.foreign, counted.unasked);
     return 0;
 }

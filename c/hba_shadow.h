@@ -41,6 +41,11 @@ static enum soft { OFF, HELD, ENDING } soft;
 static uint32_t soft_slot;
 static uint32_t told; /* the signature that was taken and not posted, as PxSIG has it */
 static bool failed; /* a queued command has failed, and its log is not read */
+/* A command that isn't queued came under queued ones, which ended all of them (Serial ATA, NCQ), with this error; and log 10h is not read. */
+static bool mixed;
+static uint8_t mixed_error;
+/* Counters 001h and 00Ah of the Phy (Serial ATA, "Phy Event Counters"): the disk's power resets them, and READ LOG with bit 0 of the features does. */
+static uint16_t icrc_ends, signatures;
 static enum power { ACTIVE, IDLE, STANDBY, SLEEP } power; /* the device's power mode (ACS-3, "Power Management feature set") */
 static bool pulled; /* the disk is pulled out */
 /* What the disk keeps (ACS-3, SET FEATURES, SET MULTIPLE MODE, SMART, WRITE BUFFER): the level of APM is 0 if it is disabled, and so are the sectors of a block of READ and
@@ -70,7 +75,7 @@ static struct { bool on, clears; uint32_t slot, phase, entries, piece; uint64_t 
 static struct { bool on, counts, spills, signs, unasked; struct fis before, after; uint32_t slot, signature; uint64_t left; } answer;
 static struct { bool on, begun; uint32_t slot, sectors, past, per_block; struct fis end; } transfer;
 
-static struct { unsigned long done, halts, dropped, trims, blocks, long_blocks, spilled, stuck, partial, deep, slept, lost, found, pulled, tries, broken, ended, foreign, unasked, stored, left, lost_bytes; } counted;
+static struct { unsigned long done, halts, dropped, trims, blocks, long_blocks, spilled, stuck, partial, deep, slept, lost, found, pulled, tries, broken, ended, foreign, unasked, stored, left, lost_bytes, mixed, icrc; } counted;
 
 static uint8_t *memory(uint64_t at, uint64_t count)
 {
@@ -164,7 +169,7 @@ static void go_down(void)
     reg.sact = reg.ci = 0;
     reg.tfd = 0x7F;
     reg.sig = 0xFFFFFFFF;
-    reg.halted = failed = false;
+    reg.halted = failed = mixed = false;
     signature = PAST;
     soft = OFF;
     is_reset();
@@ -213,6 +218,7 @@ static void power_on(void)
     reset_hba();
     reg.clb = reg.clbu = reg.fb = reg.fbu = 0;
     power = ACTIVE;
+    icrc_ends = signatures = 0;
 }
 
 /* A new controller, over sectors of which no two are alike. */
@@ -260,14 +266,25 @@ static void is_judged(uint8_t status)
 /* Whether the port accepts a FIS that it has not asked for (NDR:Accept; sections 3.3.7, FRE, and 6.2.2). */
 static bool accepts(void) { return reg.link == UP && reg.receiving && !(reg.on && reg.halted); }
 
-/* What a FIS of the device leaves once it is accepted (section 5.3, RegFIS, SDB and PIO:Entry). */
+/* One event more. */
+static void counts(uint16_t *counter) { *counter += *counter < 0xFFFF; }
+
+/* A command has ended: counter 001h is of those with ERR and ICRC. */
+static void is_ended(uint8_t status, uint8_t error)
+{
+    if (status & ERR && error & 0x80)
+        counts(&icrc_ends);
+}
+
+/* What a FIS of the device leaves once it is accepted (section 5.3, RegFIS, SDB and PIO:Entry). A D2H Register FIS that comes while ST is 0 goes from P:NotRunning to
+   P:RegFisUpdate and P:RegFisPostToMem (section 5.3.2), and neither sets an interrupt. The error of a PIO Setup FIS is pPioErr until PIO:Update. */
 static void receives(const struct fis *fis, uint32_t slot)
 {
     const uint8_t status = fis->bytes[2], error = fis->bytes[3], wants = fis->bytes[1] & 0x40;
     switch (fis->size ? fis->bytes[0] : 0) {
     case 0x34:
         reg.tfd = status | (uint32_t)error << 8;
-        reg.is |= wants ? DHRS : 0;
+        reg.is |= wants && reg.on ? DHRS : 0;
         counted.done += wants && !(status & ERR);
         reg.ci &= ~(status & (ERR | BSY | DRQ) || answer.unasked ? 0 : 1u << slot); /* without a command pIssueSlot is none */
         is_judged(status);
@@ -280,8 +297,7 @@ static void receives(const struct fis *fis, uint32_t slot)
         is_judged(status);
         break;
     case 0x5F:
-        reg.tfd = status | (uint32_t)error << 8;
-        is_judged(status);
+        reg.tfd = (reg.tfd & ~0xFFu) | status;
         break;
     case 0x55: /* the UFIS states, for which it is posted first */
         if (accepts())
@@ -295,7 +311,7 @@ static void ends_block(const struct fis *fis, uint32_t slot)
 {
     const uint8_t status = fis->bytes[15];
     counted.blocks++;
-    reg.tfd = (reg.tfd & ~0xFFu) | status;
+    reg.tfd = status | (uint32_t)fis->bytes[3] << 8;
     reg.is |= fis->bytes[1] & 0x40 ? PSS : 0;
     if (!(status & (ERR | BSY | DRQ))) {
         counted.done++;
@@ -417,7 +433,7 @@ static void loses_link(void)
     reg.sig = 0xFFFFFFFF;
     if (reg.on)
         halts();
-    failed = false;
+    failed = mixed = false;
     signature = PAST;
     soft = OFF;
     reverts();
@@ -441,6 +457,8 @@ static void is_pulled(void)
 {
     loses_link();
     reverts();
+    mixed = false;
+    icrc_ends = signatures = 0;
     counted.pulled += !pulled;
     pulled = true;
 }

@@ -92,6 +92,8 @@ static void sends(struct fis fis)
 static void signs(uint32_t signature_sent)
 {
     const uint32_t it = signature == UNPOSTED ? told : signature_sent;
+    if (signature == DUE && soft == OFF) /* COMRESET has it sent, and not a software reset */
+        counts(&signatures);
     counted.foreign += it != 0x101;
     answer.signature = it;
     answer.on = answer.signs = true;
@@ -159,9 +161,30 @@ static uint64_t comes_before(struct command *it, uint64_t lba)
     return (last - it->lba) * AHCI_SECTOR_BYTES;
 }
 
+/* Whether a queued command is outstanding beside a slot's. */
+static bool is_queueing(uint32_t slot)
+{
+    bool queueing = false;
+    for (uint32_t other = 0; other < 32; other++)
+        queueing = queueing || (other != slot && slots[other].there && slots[other].queued);
+    return queueing;
+}
+
+/* A command that is not queued ends with ERR: under queued ones it is an error of the queue, none of which is carried out any more, and log 10h has it (ACS-3, NCQ). */
+static void mixes(uint32_t slot, uint8_t status, uint8_t error)
+{
+    if (status & ERR && !slots[slot].queued && is_queueing(slot) && !failed && !mixed) {
+        mixed = true;
+        mixed_error = error;
+        counted.mixed++;
+    }
+}
+
 /* A command that is not queued fails at an LBA: a read has moved what comes before, and a write names its first sector. */
 static void ends_alone(uint32_t slot, uint8_t status, uint8_t error, uint64_t lba)
 {
+    mixes(slot, status, error);
+    is_ended(status, error);
     struct command *it = &slots[slot];
     const uint64_t data = it->kind == READ ? comes_before(it, lba) : 0;
     const struct fis fis = at_lba(it, status, error, it->kind == WRITE ? it->lba : lba);
@@ -180,6 +203,8 @@ static void fails(uint32_t slot, uint8_t error, uint64_t lba, bool is_refused)
     struct command *it = &slots[slot];
     const uint64_t at = it->writes && !is_refused ? it->lba : lba, data = is_refused ? 0 : comes_before(it, lba);
     failed = true;
+    is_ended(0x41, error);
+    counted.icrc += error >> 7;
     CHECK(ahci_log_page(slot, error, at, page, sizeof page) == AHCI_OK);
     if (is_refused)
         answers_alone(slot, bad(it, error, at));
@@ -187,13 +212,10 @@ static void fails(uint32_t slot, uint8_t error, uint64_t lba, bool is_refused)
         answers(slot, data ? dma_setup(it, slot) : no_fis, data, false, set_bits(0x41, error, 0));
 }
 
-/* Whether the disk aborts a command that is not queued: a queued one is outstanding, or has failed, or its blocks have no size. */
+/* Whether the disk aborts a command that is not queued: a queued one is outstanding, log 10h is to be read before any other command, or its blocks have no size. */
 static bool is_aborted(uint32_t slot)
 {
-    bool aborted = (failed && !slots[slot].error_log) || (slots[slot].multiple && !disk.per_block);
-    for (uint32_t other = 0; other < 32; other++)
-        aborted = aborted || (other != slot && slots[other].there && slots[other].queued);
-    return aborted;
+    return ((failed || mixed) && !slots[slot].error_log) || is_queueing(slot) || (slots[slot].multiple && !disk.per_block);
 }
 
 /* The D2H Register FIS of a command that moves no data. */
@@ -256,17 +278,21 @@ static void executes(uint32_t slot)
 {
     struct command *it = &slots[slot];
     const bool aborted = is_aborted(slot);
+    if (aborted)
+        mixes(slot, 0x41, 4);
     it->there = false;
-    if (aborted || (it->is_smart && !disk.smart))
+    if (aborted || (it->is_smart && !disk.smart)) {
         answers_alone(slot, bad(it, 4, 0));
-    else if (it->kind == STORE)
+    } else if (it->kind == STORE) {
         stores(slot);
-    else if (it->kind == PAGE)
+    } else if (it->kind == PAGE) {
+        lays_pages(it);
         delivers(slot);
-    else if (it->kind == READ || it->kind == WRITE)
+    } else if (it->kind == READ || it->kind == WRITE) {
         fails_alone(slot, 0x10, first_past(it));
-    else
+    } else {
         answers_alone(slot, answer_to(it));
+    }
     if (!aborted)
         turns_by(it);
 }
@@ -279,7 +305,7 @@ static void controls(uint32_t slot)
         is_reset();
         if (disk.reverts)
             reverts();
-        failed = false;
+        failed = mixed = false;
         signature = PAST;
         soft = HELD;
     } else if (soft == HELD) {
@@ -369,7 +395,7 @@ static uint32_t next_step(uint32_t slot, uint32_t issued)
     if (it->error_log && failed && !is_aborted(slot))
         return AHCI_STEP_RECOVER;
     if (it->kind == QUEUE)
-        return failed ? AHCI_STEP_EXECUTE : AHCI_STEP_SEND;
+        return failed || mixed ? AHCI_STEP_EXECUTE : AHCI_STEP_SEND;
     return moves && !is_aborted(slot) && !is_past(it) ? AHCI_STEP_SEND : AHCI_STEP_EXECUTE;
 }
 

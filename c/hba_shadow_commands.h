@@ -196,14 +196,19 @@ static void lays_checked(uint8_t *to, const struct command *it)
     to[0] = log != 0x111;
     if (log == 0xD0) /* off-line data are collected; self-tests, saved data and a log of errors; a test takes a minute at most */
         to[362] = 2, to[367] = 0x11, to[368] = 3, to[370] = to[372] = to[373] = 1;
-    if (log == 0x111) /* counters 001h and 00Ah, of a word each */
+    if (log == 0x111) { /* counters 001h and 00Ah, of a word each; features 0 resets them once they are read */
         to[4] = 1, to[8] = 0x0A, to[5] = to[9] = 0x10;
+        put(to + 6, icrc_ends, 2);
+        put(to + 10, signatures, 2);
+        if (it->fis[3] & 1)
+            icrc_ends = signatures = 0;
+    }
     if (log == 6 || log == 0x107)
         memcpy(to, log == 6 ? disk.tests : disk.more_tests, AHCI_PAGE_BYTES);
     sums(to);
 }
 
-/* What a command reads that is no sector: IDENTIFY DEVICE, a log while no queued command has failed, a page of SMART, or the buffer. */
+/* What a command reads that is no sector, as it is carried out: IDENTIFY DEVICE, a log while no queued command has failed, a page of SMART, or the buffer. */
 static void lays_pages(struct command *it)
 {
     const uint64_t lba = little(it->fis + 4, 3) | little(it->fis + 8, 3) << 24;
@@ -214,8 +219,12 @@ static void lays_pages(struct command *it)
     } else if (it->long_log) {
         for (uint32_t i = 0; i < it->pages; i++)
             ((lba & 0xFF) == 4 ? lays_statistics : lays_identify_log)(it->bytes + i * AHCI_PAGE_BYTES, first_page(lba) + i);
-    } else if (it->error_log) {
-        it->bytes[0] = it->bytes[511] = 0x80;
+    } else if (it->error_log) { /* NQ, and status and error of the command that was not queued */
+        it->bytes[0] = 0x80;
+        if (mixed)
+            it->bytes[2] = 0x41, it->bytes[3] = mixed_error;
+        mixed = false;
+        sums(it->bytes);
     } else if (is_buffer(it->fis[2])) {
         memcpy(it->bytes, disk.buffer, AHCI_PAGE_BYTES);
     } else if (is_log ? it->fis[4] == 0 : it->fis[3] == 0xD5 && it->fis[4] == 0) {
@@ -262,7 +271,6 @@ static void asks(struct command *it, const uint8_t *fis)
         it->long_log = is_log && pages_of(lba & 0xFF) > 1;
         it->is_smart = code == 0xB0 || (is_log && ((lba & 0xFF) == 3 || (lba & 0xFF) == 7));
         it->pages = is_log ? count : 1;
-        lays_pages(it);
     } else if (code == 0xE8 || code == 0xEB || (code == 0x06 && features & 1 && count && count <= 8)) {
         it->kind = STORE;
         it->writes = true;

@@ -9,7 +9,8 @@ use Rattle.hba_regs.specs.PortStates.{bsy_or_drq_of, cfis_success, ended_by_sign
 use Rattle.hba_regs.specs.Receiving.{after_srst_cleared}
 use Rattle.hba_regs.specs.declared.soft_reset.SoftReset.{SoftReset}
 use Rattle.hba_regs.specs.declared.soft_reset.SoftReset.TheVariants.{Off, Held, Ending}
-use Rattle.ahci_hba.specs.Transitions.{Transition, CfisSuccess, DrOverflow, ErrFatal, PioEntry, PioUpdate, RegFisEntry, RegFisPostToMem, RegFisUnsolicited, RegFisUpdate, SdbEntry, SelectCmd, SrstCleared, SrstSet, Stuck, UnknownFis, after, answers_command, answers_tag, ends_reset}
+use Rattle.ahci_hba.specs.Transitions.{Transition, CfisSuccess, DrOverflow, ErrFatal, PioEntry, PioUpdate, RegFisEntry, RegFisPostToMem, RegFisUnsolicited, RegFisUpdate}
+use Rattle.ahci_hba.specs.Transitions.{SdbEntry, SelectCmd, SrstCleared, SrstSet, Stuck, UnknownFis, after, answers_command, answers_tag, ends_reset}
 
 leaves : (s : List Bool) (a i : ℕ) → has_place (without_place s a) i ≡ (has_place s i && not (nat_eq a i))
 leaves s a i =
@@ -37,12 +38,12 @@ registers p status error i s slot = by (err_of status) (bsy_or_drq_of status)
     by false true = stays (has_place p.ci slot)
     by false false = leaves p.ci s slot
 
-moves_data : (p : HbaPort) (e_status : ℕ) (i : Bool) (s slot : ℕ) → has_place (after (PioUpdate e_status i s) p).ci slot
-    ≡ (has_place p.ci slot && not (answers_command (PioUpdate e_status i s) p slot))
-moves_data p e_status i s slot = by (err_of e_status) (bsy_or_drq_of e_status)
+moves_data : (p : HbaPort) (e_status error : ℕ) (i : Bool) (s slot : ℕ) → has_place (after (PioUpdate e_status error i s) p).ci slot
+    ≡ (has_place p.ci slot && not (answers_command (PioUpdate e_status error i s) p slot))
+moves_data p e_status error i s slot = by (err_of e_status) (bsy_or_drq_of e_status)
   where
     q : HbaPort
-    q = record p { sts = e_status }
+    q = record p { sts = e_status; err = error }
 
     by : (e b : Bool) → has_place (if e then err_fatal_taskfile (pio_set_intr i q) else if b then pio_set_intr i q else pio_clear_ci i s q).ci slot
         ≡ (has_place p.ci slot && not ((not e && not b) && nat_eq s slot))
@@ -55,15 +56,11 @@ signs p Off slot = stays (has_place p.ci slot)
 signs p Held slot = stays (has_place p.ci slot)
 signs p (Ending s) slot = leaves p.ci s slot
 
-sets_up : (p : HbaPort) (status error slot : ℕ) → (has_place (after (PioEntry status error) p).ci slot ≡ has_place p.ci slot) × (has_place (after (PioEntry status error) p).sact slot ≡ has_place p.sact slot)
-sets_up p status error slot = by (err_of status)
-  where
-    q : HbaPort
-    q = record p { sts = status; err = error }
-
-    by : (e : Bool) → (has_place (if e then err_fatal_taskfile q else q).ci slot ≡ has_place p.ci slot) × (has_place (if e then err_fatal_taskfile q else q).sact slot ≡ has_place p.sact slot)
-    by true = (refl, refl)
-    by false = (refl, refl)
+unsolicited : (p : HbaPort) (slot : ℕ) (b : Bool)
+    → (has_place (if b then reg_fis_set_intr true (record p { sts = 0x50; err = 0x00 }) else record p { sts = 0x50; err = 0x00 }).ci slot ≡ has_place p.ci slot)
+    × (has_place (if b then reg_fis_set_intr true (record p { sts = 0x50; err = 0x00 }) else record p { sts = 0x50; err = 0x00 }).sact slot ≡ has_place p.sact slot)
+unsolicited p slot true = (refl, refl)
+unsolicited p slot false = (refl, refl)
 
 releases : (p : HbaPort) (s slot : ℕ) (soft : SoftReset)
     → (has_place (after_srst_cleared p s soft).ci slot ≡ has_place p.ci slot) × (has_place (after_srst_cleared p s soft).sact slot ≡ has_place p.sact slot)
@@ -95,11 +92,11 @@ issued (CfisSuccess s c) p slot = sends p s slot c
 issued (Stuck s c) p slot = sends p s slot c
 issued (RegFisEntry status error i s) p slot = registers p status error i s slot
 issued (SdbEntry status error i sactive) p slot = (sets_bits p status error i sactive slot).0 ∙ stays (has_place p.ci slot)
-issued (PioEntry status error) p slot = (sets_up p status error slot).0 ∙ stays (has_place p.ci slot)
-issued (PioUpdate e_status i s) p slot = moves_data p e_status i s slot
+issued (PioEntry status) p slot = stays (has_place p.ci slot)
+issued (PioUpdate e_status error i s) p slot = moves_data p e_status error i s slot
 issued DrOverflow p slot = stays (has_place p.ci slot)
 issued (ErrFatal f) p slot = stays (has_place p.ci slot)
-issued RegFisUnsolicited p slot = stays (has_place p.ci slot)
+issued RegFisUnsolicited p slot = (unsolicited p slot p.st).0 ∙ stays (has_place p.ci slot)
 issued (RegFisUpdate kind) p slot = signs p p.soft slot
 issued RegFisPostToMem p slot = stays (has_place p.ci slot)
 issued SrstSet p slot = stays (has_place p.ci slot)
@@ -122,11 +119,11 @@ keeps_register p status error i s slot = by (err_of status) (bsy_or_drq_of statu
     by false true = refl
     by false false = refl
 
-keeps_data : (p : HbaPort) (e_status : ℕ) (i : Bool) (s slot : ℕ) → has_place (after (PioUpdate e_status i s) p).sact slot ≡ has_place p.sact slot
-keeps_data p e_status i s slot = by (err_of e_status) (bsy_or_drq_of e_status)
+keeps_data : (p : HbaPort) (e_status error : ℕ) (i : Bool) (s slot : ℕ) → has_place (after (PioUpdate e_status error i s) p).sact slot ≡ has_place p.sact slot
+keeps_data p e_status error i s slot = by (err_of e_status) (bsy_or_drq_of e_status)
   where
     q : HbaPort
-    q = record p { sts = e_status }
+    q = record p { sts = e_status; err = error }
 
     by : (e b : Bool) → has_place (if e then err_fatal_taskfile (pio_set_intr i q) else if b then pio_set_intr i q else pio_clear_ci i s q).sact slot ≡ has_place p.sact slot
     by true b = refl
@@ -139,11 +136,11 @@ active (CfisSuccess s c) p slot = keeps p s slot c ∙ stays (has_place p.sact s
 active (Stuck s c) p slot = keeps p s slot c ∙ stays (has_place p.sact slot)
 active (RegFisEntry status error i s) p slot = keeps_register p status error i s slot ∙ stays (has_place p.sact slot)
 active (SdbEntry status error i sactive) p slot = (sets_bits p status error i sactive slot).1
-active (PioEntry status error) p slot = (sets_up p status error slot).1 ∙ stays (has_place p.sact slot)
-active (PioUpdate e_status i s) p slot = keeps_data p e_status i s slot ∙ stays (has_place p.sact slot)
+active (PioEntry status) p slot = stays (has_place p.sact slot)
+active (PioUpdate e_status error i s) p slot = keeps_data p e_status error i s slot ∙ stays (has_place p.sact slot)
 active DrOverflow p slot = stays (has_place p.sact slot)
 active (ErrFatal f) p slot = stays (has_place p.sact slot)
-active RegFisUnsolicited p slot = stays (has_place p.sact slot)
+active RegFisUnsolicited p slot = (unsolicited p slot p.st).1 ∙ stays (has_place p.sact slot)
 active (RegFisUpdate kind) p slot = stays (has_place p.sact slot)
 active RegFisPostToMem p slot = stays (has_place p.sact slot)
 active SrstSet p slot = stays (has_place p.sact slot)

@@ -19,7 +19,9 @@ resets consequence h p drops made =
 
 -- the registers don't matter for that
 empties : (consequence : Consequence) (h : HbaView) (r : HbaState) → (consequence ≡ Nothing → ⊥)
-    → emptied (record h { registers = r; port = port_after (is_reset consequence (record h { registers = r })) h.port; power = power_after consequence h.power; device = device_after consequence h.device }) ≡ after_write consequence h r
+    → emptied
+    (record h { registers = r; port = port_after (is_reset consequence (record h { registers = r })) h.port; power = power_after consequence h.power; device = device_after consequence h.device })
+    ≡ after_write consequence h r
 empties Nothing h r some = absurd (some refl)
 empties Stopped h r some = refl
 empties LinkReset h r some = refl

@@ -1,5 +1,6 @@
 pub mod AnswerLemmas
 pub mod BitLemmas
+pub mod CollisionLemmas
 pub mod DeliveringLemmas
 pub mod DroppingLemmas
 pub mod ExecutingLemmas

@@ -16,7 +16,8 @@ set_twice [] (suc i) a b = refl
 set_twice (x ∷ l) zero a b = refl
 set_twice (x ∷ l) (suc i) a b = ap (λ y. x ∷ y) (set_twice l i a b)
 
-pub sent_by_port : (slot tag : ℕ) (t : Task) (list : List PrdEntry) (bytes : List ℕ) (h new : HbaView) (port : PortView) (work : Work) → tag ≡ slot → IsSubmitted tag work h.port port → work ≡ asked_for t bytes
+pub sent_by_port : (slot tag : ℕ) (t : Task) (list : List PrdEntry) (bytes : List ℕ) (h new : HbaView) (port : PortView) (work : Work)
+    → tag ≡ slot → IsSubmitted tag work h.port port → work ≡ asked_for t bytes
     → new ≡ record h { port = port; slots = set h.slots slot (Some (Sent t list)) } → IsSent slot t list bytes h new
 sent_by_port slot tag t list bytes h new port work same submitted asked made = record {
   port = port;

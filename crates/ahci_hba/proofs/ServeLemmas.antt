@@ -56,10 +56,12 @@ served_is_collected old middle slot number owner first past =
     ∙ completed_is_collected old.first old.past slot number owner
 
 -- what the port did makes up what the controller did
-pub serves : (slot tag number entry : ℕ) (outcome : Outcome) (h taken new : HbaView) (middle port : PortView) (s : DeviceStep) (answer : Stepped) (window : WindowState) (t : Task) (list : List PrdEntry)
+pub serves : (slot tag number entry : ℕ) (outcome : Outcome) (h taken new : HbaView) (middle port : PortView) (s : DeviceStep) (answer : Stepped) (window : WindowState)
+    (t : Task) (list : List PrdEntry)
     → tag ≡ slot → s ≡ Serve (record { items = tag ∷ [] }) → IsStepped s h.port middle answer → IsCollected tag middle port → Some number ≡ owner_of h.port tag
     → answer_to middle number ≡ Some (record { entry = entry; outcome = outcome; bytes = bytes_in outcome window })
-    → taken ≡ record h { port = port; slots = slice_set h.slots slot None } → t ≡ task_in (command_at h slot) → list ≡ list_in (command_at h slot) → new ≡ record taken { work = Served slot t window list }
+    → taken ≡ record h { port = port; slots = slice_set h.slots slot None } → t ≡ task_in (command_at h slot) → list ≡ list_in (command_at h slot)
+    → new ≡ record taken { work = Served slot t window list }
     → IsServed slot (task_in (command_at h slot)) (list_in (command_at h slot)) h new
 serves slot tag number entry outcome h taken new middle port s answer window t list same e stepped collected owner answered was asked listed made = record {
   middle = middle;

@@ -4,9 +4,10 @@ use Rattle.sata_fis.specs.Encoding.{d2h_bytes}
 use Rattle.sata_fis.specs.Fields.{D2hFields, QueuedFields}
 use Rattle.hba_command.specs.Action.{action_of}
 use Rattle.hba_command.specs.Addressing.{addressing_of}
-use Rattle.hba_command.specs.Device.{after_store, allows_page}
+use Rattle.hba_command.specs.Device.{after_page, after_store, allows_page}
 use Rattle.hba_command.specs.DiskPages.{ready_page}
-use Rattle.hba_command.specs.Pages.{controller_page, not_queued_page}
+use Rattle.hba_command.specs.NotQueued.{unfailed_page}
+use Rattle.hba_command.specs.Pages.{controller_page}
 use Rattle.hba_command.specs.Power.{needs_medium}
 use Rattle.hba_command.specs.Span.{SpanFields}
 use Rattle.hba_command.specs.Store.{blocks_of}
@@ -30,12 +31,14 @@ use Rattle.ncq_journal.specs.History.{History}
 use Rattle.ahci_port.specs.PortView.{PortView, sectors_in}
 use Rattle.ahci_port.specs.Steps.{answer_to}
 use Rattle.ahci_port.specs.declared.step.Stepped.{Stepped}
-use Rattle.ahci_hba.specs.Delivering.{answer_with, answered, block_in, block_out, block_posting, bytes_for, closing, dma_answer, done, finishing, fis_ending, going_on, only_before, page_answer, page_posting, queued_answer, queued_posting, read_answer, read_posting, received_put, setup_put}
+use Rattle.ahci_hba.specs.Delivering.{answer_with, answered, block_in, block_out, block_posting, bytes_for, closing, dma_answer, done, finishing}
+use Rattle.ahci_hba.specs.Delivering.{fis_ending, going_on, only_before, page_answer, page_posting, queued_answer, queued_posting, read_answer, read_posting, received_put, setup_put}
 use Rattle.ahci_hba.specs.Dropping.{is_spent, port_after}
 use Rattle.ahci_hba.specs.Executing.{Executes, Performs, aborted, disk_page_given, first_missing, is_aborted, log_given, long_log_in, paged, pages_given, replied, reply_fis}
-use Rattle.ahci_hba.specs.Failing.{Fails, concluded, ended_at, ended_with, ending_fis, failed_posting, moved_before, moved_sectors, queue_failed, read_failed, sectors_before, sectors_ended, sectors_failed, sectors_of, vacated}
+use Rattle.ahci_hba.specs.Failing.{Fails, concluded, ended_at, ended_with, ending_fis, failed_posting, moved_before}
+use Rattle.ahci_hba.specs.Failing.{moved_sectors, queue_failed, read_failed, sectors_before, sectors_ended, sectors_failed, sectors_of, vacated}
 use Rattle.ahci_hba.specs.HbaView.{CommandView, Fetched, Sent, HbaView, WorkView, Idle, Fetching, Served, Pio, Block, Posting}
-use Rattle.ahci_hba.specs.Keeping.{keeping}
+use Rattle.ahci_hba.specs.Keeping.{device_ended, keeping}
 use Rattle.ahci_hba.specs.Moving.{answering, blocking, ending_of}
 use Rattle.ahci_hba.specs.Powering.{awake}
 use Rattle.ahci_hba.specs.Queueing.{Sends, accepting, after_acceptance, command_at, fis_put, has_alone, is_taken, list_in, only_after, task_in}
@@ -194,13 +197,13 @@ gives_pages h slot Multiple list bytes n = none h.registers
 gives_pages h slot ByDma list bytes n = reads (vacated h slot) slot list bytes (512 * n) done
 
 gives_log : (h : HbaView) (slot : ℕ) (p : Protocol) (list : List PrdEntry) (log : Log) → Takes h.registers (log_given h slot p list log).registers
-gives_log h slot p list QueuedError = gives_page h slot p list not_queued_page
+gives_log h slot p list QueuedError = gives_page h slot p list (unfailed_page h.device.collision)
 gives_log h slot p list (Pages log pages) = gives_pages h slot p list (long_log_in h log pages) pages.count
 
 gives_disk_page : (h : HbaView) (slot : ℕ) (p : Protocol) (list : List PrdEntry) (page : DiskPage) → Takes h.registers (disk_page_given h slot p list page).registers
 gives_disk_page h slot p list page = by (allows_page h.device page)
   where
-    by : (b : Bool) → Takes h.registers (if b then paged h slot p list (ready_page h.device page) else concluded h slot aborted).registers
+    by : (b : Bool) → Takes h.registers (if b then keeping (paged h slot p list (ready_page h.device page)) (after_page page h.device) else concluded h slot aborted).registers
     by true = gives_page h slot p list (ready_page h.device page)
     by false = concludes h slot aborted
 
@@ -230,7 +233,7 @@ performs slot (Control reset) list old new h = absurd h
 performs slot Abort list old new h = made_by old new (concluded old slot aborted) h (concludes old slot aborted)
 
 executes : (b : Bool) (slot : ℕ) (a : Action) (list : List PrdEntry) (old new : HbaView) → Executes b slot a list old new → Takes old.registers new.registers
-executes true slot a list old new h = made_by old new (concluded old slot aborted) h (concludes old slot aborted)
+executes true slot a list old new h = made_by old new (keeping (concluded old slot aborted) (device_ended old slot 0x41 0x04)) h (concludes old slot aborted)
 executes false slot a list old new h = performs slot a list old new h
 
 releases : (h : HbaView) (slot : ℕ) (soft : SoftReset) → h.registers.port.soft ≡ soft → Takes h.registers (released soft h slot).registers
@@ -285,7 +288,8 @@ fails slot error lba (Some q) old new f =
     let n = moved_sectors old.port q lba in
     let bytes = sectors_of old.port q.lba n in
     made_by old new (queue_failed old port slot q list bytes n error) f.answered
-    (answers (record old { port = port }) (failed_posting old.registers port slot q list bytes n) (ending_of (nat_eq n 0 || fits (512 * n) list) (last_fis.Bits 0x41 error 0)))
+    (answers (record old { port = port }) (failed_posting old.registers port slot q list bytes n)
+    (ending_of (nat_eq n 0 || fits (512 * n) list) (last_fis.Bits 0x41 error 0)))
 fails slot error lba None old new f = absurd f
 
 ends_with : (h : HbaView) (slot : ℕ) (list : List PrdEntry) (a : Action) (status error lba : ℕ) → Takes h.registers (ended_with h slot list a status error lba).registers

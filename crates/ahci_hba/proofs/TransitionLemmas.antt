@@ -12,7 +12,8 @@ use Rattle.hba_memory.specs.Reading.{ReadingView, Header, Command, Entries, Cont
 use Rattle.ahci_hba.specs.HbaView.{HbaView, WorkView, Idle, Fetching, Served, Pio, Block, Posting}
 use Rattle.ahci_hba.specs.Moving.{answering, block_ended, blocking, ended, ended_by, host_failed, overflowed, put_done, read_so_far, setup_taken, supplied}
 use Rattle.ahci_hba.specs.Transfer.{TransferView, has_interrupt}
-use Rattle.ahci_hba.specs.Transitions.{Takes, Transition, CfisSuccess, DrOverflow, ErrFatal, PioEntry, PioUpdate, RegFisEntry, RegFisPostToMem, RegFisUnsolicited, RegFisUpdate, SdbEntry, Stuck, UnknownFis, after, after_all}
+use Rattle.ahci_hba.specs.Transitions.{Takes, Transition, CfisSuccess, DrOverflow, ErrFatal, PioEntry, PioUpdate, RegFisEntry}
+use Rattle.ahci_hba.specs.Transitions.{RegFisPostToMem, RegFisUnsolicited, RegFisUpdate, SdbEntry, Stuck, UnknownFis, after, after_all}
 use Rattle.ahci_hba.specs.declared.ending.Ending.{Ending}
 use Rattle.ahci_hba.specs.declared.last_fis.LastFis.{LastFis}
 use Rattle.ahci_hba.specs.declared.last_fis.LastFis.TheVariants as last_fis
@@ -50,7 +51,7 @@ unfolding ended_by
 ends_by s (last_fis.Register status error i slot) = one s (RegFisEntry status error i slot)
 ends_by s (last_fis.Bits status error sactive) = one s (SdbEntry status error true sactive)
 ends_by s (last_fis.Pio slot) =
-    both s (setup_taken s) _ (one s (PioEntry 0x48 0)) (one (setup_taken s) (PioUpdate 0x40 true slot))
+    both s (setup_taken s) _ (one s (PioEntry 0x48)) (one (setup_taken s) (PioUpdate 0x40 0 true slot))
 ends_by s (last_fis.Signature kind) = takes_signature s kind (signature_moves s.port s.port.signature) s.port.signature refl
 ends_by s last_fis.Unsolicited = one s RegFisUnsolicited
 ends_by s last_fis.Unknown = one s UnknownFis
@@ -63,7 +64,7 @@ unfolding block_ended
 block_ends s t =
     let o = overflowed s t.short in
     both s o _ (overflows s t.short)
-    (both o (setup_taken o) _ (one o (PioEntry 0x48 0)) (one (setup_taken o) (PioUpdate 0xC0 (has_interrupt t) t.slot)))
+    (both o (setup_taken o) _ (one o (PioEntry 0x48)) (one (setup_taken o) (PioUpdate 0xC0 0 (has_interrupt t) t.slot)))
 
 pub answers : (h : HbaView) (p : PostingView) (e : Ending) → Takes h.registers (answering h p e).registers
 answers h p e = by (is_none (remaining p))

@@ -1,7 +1,7 @@
 -- What becomes of a controller when its link is lost or found, when its device is unplugged or plugged in, and when the interface fails (AHCI
 -- 1.3.1, sections 6.1.2 "Interface Errors", 6.2.2 "Software Error Recovery" and chapter 7 "Hot Plug Operation").
 use Rattle.std.specs.Prelude.{ℕ, Bool, true, ◌&&◌, List, [], ◌∷◌, Option, None, if◌then◌else◌}
-use Rattle.hba_command.specs.Device.{reset_device}
+use Rattle.hba_command.specs.Device.{power_cycled, reset_device}
 use Rattle.hba_command.specs.Power.{after_reset}
 use Rattle.hba_command.specs.declared.power.Power.TheVariants.{Active}
 use Rattle.hba_regs.specs.HbaState.{HbaPort}
@@ -47,7 +47,7 @@ device_unplugged h =
     emptied (record (with_port h (unplugged h.registers.port)) {
       port = port_after (is_reset Reset h) h.port;
       power = Active;
-      device = reset_device h.device;
+      device = power_cycled h.device;
     })
 
 abbrev pub unplugged_journal : HbaView → Option History

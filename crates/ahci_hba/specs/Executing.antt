@@ -1,15 +1,15 @@
 -- What the device does with a command that is not queued (ACS-3, by the commands' titles).
 use Rattle.std.specs.Prelude.{◌≡◌, ℕ, ◌-◌, ◌*◌, Bool, true, false, not, ◌&&◌, ◌||◌, max, min, List, Option, None, Some, if◌then◌else◌}
 use Rattle.std.specs.List.{list_any}
-use Rattle.ncq_journal.specs.Halted.{halted}
 use Rattle.sata_fis.specs.Fields.{D2hFields}
 use Rattle.hba_command.specs.Action.{action_of}
 use Rattle.hba_command.specs.Addressing.{addressed}
-use Rattle.hba_command.specs.Device.{allows, allows_page}
+use Rattle.hba_command.specs.Device.{after_error_log, after_page, allows, allows_page}
 use Rattle.hba_command.specs.DiskPages.{ready_page}
 use Rattle.hba_command.specs.LogPages.{LogPagesFields}
 use Rattle.hba_command.specs.LongLogs.{long_log_pages}
-use Rattle.hba_command.specs.Pages.{controller_page, not_queued_page}
+use Rattle.hba_command.specs.NotQueued.{unfailed_page}
+use Rattle.hba_command.specs.Pages.{controller_page}
 use Rattle.hba_command.specs.Power.{power_count}
 use Rattle.hba_command.specs.Span.{SpanFields}
 use Rattle.hba_command.specs.declared.action.Action.{Action}
@@ -33,9 +33,9 @@ use Rattle.ahci_port.specs.Steps.{IsFlushed, IsIdentified, LacksRoom}
 use Rattle.ahci_hba.specs.Delivering.{beginning, d2h_fis, done, page_answer, read_answer}
 use Rattle.ahci_hba.specs.Failing.{concluded, moves_some, sectors_failed, vacated}
 use Rattle.ahci_hba.specs.HbaView.{CommandView, Fetched, HbaView}
-use Rattle.ahci_hba.specs.Keeping.{changed_by}
+use Rattle.ahci_hba.specs.Keeping.{changed_by, device_ended, keeping}
 use Rattle.ahci_hba.specs.Powering.{awake, turned}
-use Rattle.ahci_hba.specs.Queueing.{command_at, has_no_blocks, has_queued, is_alone, is_on, list_in, task_in}
+use Rattle.ahci_hba.specs.Queueing.{command_at, has_no_blocks, has_queued, is_alone, is_failed, is_on, list_in, task_in}
 use Rattle.ahci_hba.specs.Storing.{content_in, stored}
 
 -- a command is aborted; the signature of a disk stands in LBA and count (Serial ATA, "Signature")
@@ -90,14 +90,14 @@ page_by h slot p list page = page_answer h slot list page
 abbrev pub paged : HbaView → ℕ → Protocol → List PrdEntry → List ℕ → HbaView
 paged h slot p list page = page_by (vacated h slot) slot p list page
 
--- why the device aborts a command that is not queued: queued ones are outstanding (ACS-3, "Native Command Queuing"), or one has failed
--- and its log is not read yet, but for a command that reads it, or it is READ or WRITE MULTIPLE and no block size is set
+-- why the device aborts a command that is not queued: queued ones are outstanding (ACS-3, "Native Command Queuing"), or log 10h is to be read, but for a
+-- command that reads it, or it is READ or WRITE MULTIPLE and no block size is set
 abbrev pub reads_error_log : Action → Bool
 reads_error_log (Page (page.Log QueuedError) p) = true
 reads_error_log other = false
 
 abbrev pub is_aborted : HbaView → Action → Bool
-is_aborted h a = list_any has_queued h.slots || (halted h.port.past && not (reads_error_log a)) || has_no_blocks h a
+is_aborted h a = list_any has_queued h.slots || (is_failed h && not (reads_error_log a)) || has_no_blocks h a
 
 -- a command that is not queued is read
 abbrev pub is_alone_fetched : Option CommandView → Bool
@@ -128,14 +128,15 @@ pages_given h slot p list bytes n = pages_by (vacated h slot) slot p list bytes 
 abbrev pub long_log_in : HbaView → LongLog → LogPagesFields → List ℕ
 long_log_in h log pages = long_log_pages log (sectors_in h.port) h.depth h.device pages.first pages.count
 
--- a log, with no queued command failed
+-- a log, with no queued command failed. Log 10h ends that the device aborts commands
 abbrev pub log_given : HbaView → ℕ → Protocol → List PrdEntry → Log → HbaView
-log_given h slot p list QueuedError = paged h slot p list not_queued_page
+log_given h slot p list QueuedError = keeping (paged h slot p list (unfailed_page h.device.collision)) (after_error_log h.device)
 log_given h slot p list (Pages log pages) = pages_given h slot p list (long_log_in h log pages) pages.count
 
 -- a page that the disk has ready, or the command is aborted
 abbrev pub disk_page_given : HbaView → ℕ → Protocol → List PrdEntry → DiskPage → HbaView
-disk_page_given h slot p list page = if allows_page h.device page then paged h slot p list (ready_page h.device page) else concluded h slot aborted
+disk_page_given h slot p list page =
+    if allows_page h.device page then keeping (paged h slot p list (ready_page h.device page)) (after_page page h.device) else concluded h slot aborted
 
 -- what the device does with a command that it doesn't abort and the port doesn't take. Sectors are not all on the disk then: those of a read
 -- that are there move, and the device is Active. A queued command has a tag that the device hasn't
@@ -151,8 +152,9 @@ Performs slot (Replies r) list old new = new ≡ replied old slot r
 Performs slot (Control reset) list old new = ⊥
 Performs slot Abort list old new = new ≡ concluded old slot aborted
 
+-- one that it aborts aborts queued ones that are outstanding, too (ACS-3, "Native Command Queuing"; Serial ATA, "NCQ error recovery")
 abbrev pub Executes : (aborts : Bool) → ℕ → Action → List PrdEntry → HbaView → HbaView → Type 0
-Executes true slot a list old new = new ≡ concluded old slot aborted
+Executes true slot a list old new = new ≡ keeping (concluded old slot aborted) (device_ended old slot 0x41 0x04)
 Executes false slot a list old new = Performs slot a list old new
 
 -- what the device does with the command of a slot

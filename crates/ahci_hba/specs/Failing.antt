@@ -7,6 +7,7 @@ use Rattle.sata_fis.specs.Encoding.{d2h_bytes}
 use Rattle.sata_fis.specs.Fields.{D2hFields, QueuedFields}
 use Rattle.hba_command.specs.Action.{action_of}
 use Rattle.hba_command.specs.Addressing.{addressed, addressing_of}
+use Rattle.hba_command.specs.Device.{after_ending}
 use Rattle.hba_command.specs.Span.{SpanFields}
 use Rattle.hba_command.specs.declared.action.Action.{Action}
 use Rattle.hba_command.specs.declared.action.Action.TheVariants.{Queue, Sectors, Page, Store, Flush, Reply, Control, Abort}
@@ -23,6 +24,7 @@ use Rattle.ahci_port.specs.declared.step.DeviceStep.TheVariants as step
 use Rattle.ahci_port.specs.declared.step.Stepped.{Stepped}
 use Rattle.ahci_hba.specs.Delivering.{beginning_by, d2h_fis, fis_ending, read_answer, received_put}
 use Rattle.ahci_hba.specs.HbaView.{HbaView}
+use Rattle.ahci_hba.specs.Keeping.{device_ended, keeping}
 use Rattle.ahci_hba.specs.Moving.{answering, ending_of}
 use Rattle.ahci_hba.specs.Powering.{woken_for}
 use Rattle.ahci_hba.specs.Queueing.{command_at, fis_put, list_in, only_after, task_in}
@@ -88,11 +90,13 @@ ended_with h slot list (Reply r) status error lba = concluded h slot (ending_fis
 ended_with h slot list (Control reset) status error lba = concluded h slot (ending_fis (addressing_of (Control reset)) status error lba)
 ended_with h slot list Abort status error lba = concluded h slot (ending_fis (addressing_of Abort) status error lba)
 
--- that of a slot, of which one that needs the medium makes the device Active
+-- that of a slot, of which one that needs the medium makes the device Active. With ERR it aborts queued ones that are outstanding, and ICRC is counted
 abbrev pub ended_at : HbaView → ℕ → (status error lba : ℕ) → HbaView
 ended_at h slot status error lba =
-    woken_for (action_of (task_in (command_at h slot)))
-    (ended_with h slot (list_in (command_at h slot)) (action_of (task_in (command_at h slot))) status error lba)
+    keeping
+    (woken_for (action_of (task_in (command_at h slot)))
+    (ended_with h slot (list_in (command_at h slot)) (action_of (task_in (command_at h slot))) status error lba))
+    (device_ended h slot status error)
 
 abbrev pub refused_at : HbaView → ℕ → (error lba : ℕ) → HbaView
 refused_at h slot error lba = ended_at h slot 0x41 error lba
@@ -134,10 +138,14 @@ failed_posting s port slot q list bytes n =
       after = fis_put s port 0x58 8;
     }
 
-abbrev pub queue_failed : HbaView → PortView → (slot : ℕ) → QueuedFields → List PrdEntry → List ℕ → ℕ → ℕ → HbaView
-queue_failed h port slot q list bytes n error =
+abbrev pub failure_answered : HbaView → PortView → (slot : ℕ) → QueuedFields → List PrdEntry → List ℕ → ℕ → ℕ → HbaView
+failure_answered h port slot q list bytes n error =
     answering (record h { port = port }) (failed_posting h.registers port slot q list bytes n)
     (ending_of (nat_eq n 0 || fits (512 * n) list) (Bits 0x41 error 0))
+
+-- and ICRC is counted
+abbrev pub queue_failed : HbaView → PortView → (slot : ℕ) → QueuedFields → List PrdEntry → List ℕ → ℕ → ℕ → HbaView
+queue_failed h port slot q list bytes n error = keeping (failure_answered h port slot q list bytes n error) (after_ending false 0x41 error h.device)
 
 -- the port fails the request of a slot at a sector
 pub record FailsRequest (slot error at : ℕ) (old new : HbaView) : Type 0 where

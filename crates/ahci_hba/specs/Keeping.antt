@@ -1,12 +1,13 @@
 -- What the disk of a controller keeps between commands (ACS-3, "SET FEATURES", "SMART" and "IDENTIFY DEVICE").
-use Rattle.std.specs.Prelude.{Bool}
-use Rattle.hba_command.specs.Device.{device_after_reply, named, reset_device, with_cache}
+use Rattle.std.specs.Prelude.{ℕ, Bool}
+use Rattle.hba_command.specs.Device.{after_ending, device_after_reply, named, reset_device, with_cache}
 use Rattle.hba_command.specs.declared.device.Device.{Device}
 use Rattle.hba_command.specs.declared.identity.Identity.{Identity}
 use Rattle.hba_command.specs.declared.reply.Reply.{Reply}
 use Rattle.hba_regs.specs.declared.consequence.Consequence.{Consequence}
 use Rattle.hba_regs.specs.declared.consequence.Consequence.TheVariants.{Nothing, Stopped, LinkReset, Reset}
 use Rattle.ahci_hba.specs.HbaView.{HbaView}
+use Rattle.ahci_hba.specs.Queueing.{comes_under_queued}
 
 abbrev pub keeping : HbaView → Device → HbaView
 keeping h d = record h { device = d }
@@ -28,3 +29,7 @@ cached has h = keeping h (with_cache has h.device)
 
 abbrev pub renamed : Identity → HbaView → HbaView
 renamed identity h = keeping h (named identity h.device)
+
+-- the disk behind the command of a slot, which has ended with this status and error
+abbrev pub device_ended : HbaView → (slot status error : ℕ) → Device
+device_ended h slot status error = after_ending (comes_under_queued h slot) status error h.device

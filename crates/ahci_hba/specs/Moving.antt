@@ -94,12 +94,12 @@ overflowed s overflow = if overflow then moved s (dr_overflow s.port) else s
 
 -- what the last FIS of an answer does to them
 abbrev pub after_data_in : HbaState → ℕ → HbaState
-after_data_in s slot = moved s (pio_update 0x40 true slot s.port)
+after_data_in s slot = moved s (pio_update 0x40 0 true slot s.port)
 
 unfoldable pub ended_by : HbaState → LastFis → HbaState
 ended_by s (last_fis.Register status error i slot) = moved s (reg_fis_entry status error i slot s.port)
 ended_by s (last_fis.Bits status error sactive) = moved s (sdb_entry status error true sactive s.port)
-ended_by s (last_fis.Pio slot) = after_data_in (moved s (pio_entry 0x48 0 s.port)) slot
+ended_by s (last_fis.Pio slot) = after_data_in (moved s (pio_entry 0x48 s.port)) slot
 ended_by s (last_fis.Signature kind) = if signature_moves s.port s.port.signature then moved s (signed kind s.port s.port.signature) else s
 ended_by s last_fis.Unsolicited = moved s (reg_fis_unsolicited s.port)
 ended_by s last_fis.Unknown = moved s (unknown_received s.port)
@@ -113,10 +113,10 @@ answering h p e = if is_none (remaining p) then record h { registers = ended h.r
 
 -- a block has moved, and the device is busy with the next one: BSY and DRDY are set, and DRQ is 0
 abbrev pub setup_taken : HbaState → HbaState
-setup_taken s = moved s (pio_entry 0x48 0 s.port)
+setup_taken s = moved s (pio_entry 0x48 s.port)
 
 abbrev pub after_block_of : HbaState → TransferView → HbaState
-after_block_of s t = moved s (pio_update 0xC0 (has_interrupt t) t.slot s.port)
+after_block_of s t = moved s (pio_update 0xC0 0 (has_interrupt t) t.slot s.port)
 
 unfoldable pub block_ended : HbaState → TransferView → HbaState
 block_ended s t = after_block_of (setup_taken (overflowed s t.short)) t

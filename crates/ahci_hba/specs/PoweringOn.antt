@@ -1,6 +1,6 @@
 -- What power-on leaves of a controller (AHCI 1.3.1, chapter 3 and section 10.4).
 use Rattle.std.specs.Prelude.{Option}
-use Rattle.hba_command.specs.Device.{reset_device}
+use Rattle.hba_command.specs.Device.{power_cycled}
 use Rattle.hba_regs.specs.HbaState.{powered_with}
 use Rattle.hba_regs.specs.declared.consequence.Consequence.TheVariants.{Reset}
 use Rattle.ncq_journal.specs.History.{History}
@@ -15,7 +15,7 @@ powered_on h =
     record (hba_with h.port.image h.depth h.registers.port.capabilities) {
       registers = powered_with h.registers.port.present h.registers.port.capabilities;
       port = port_after (is_reset Reset h) h.port;
-      device = reset_device h.device;
+      device = power_cycled h.device;
     }
 
 -- the journal that the port hands out if it is reset

@@ -1,5 +1,5 @@
 -- What the device does with a queued command of a slot (AHCI 1.3.1, section 5.3; ACS-3, "Native Command Queuing").
-use Rattle.std.specs.Prelude.{◌≡◌, ℕ, ◌+◌, ◌-◌, ◌*◌, ◌%◌, Bool, true, false, not, nat_le, nat_lt, ◌&&◌, List, [], ◌∷◌, take, drop, Option, None, Some, IsSomeAnd, slice_index_or, slice_set, if◌then◌else◌}
+use Rattle.std.specs.Prelude.{◌≡◌, ℕ, ◌+◌, ◌-◌, ◌*◌, ◌%◌, Bool, true, false, not, nat_le, nat_lt, ◌&&◌, ◌||◌, List, [], ◌∷◌, take, drop, Option, None, Some, IsSomeAnd, is_some, slice_index_or, slice_set, if◌then◌else◌}
 use Rattle.std.specs.List.{list_any, range_with_len}
 use Rattle.sata_fis.specs.Fields.{QueuedFields}
 use Rattle.word_bits.specs.Places.{has_place}
@@ -21,6 +21,7 @@ use Rattle.hba_regs.specs.PortStates.{p_idle_selects, p_select_cmd}
 use Rattle.hba_regs.specs.Receiving.{moved}
 use Rattle.hba_regs.specs.declared.soft_reset.SoftReset.{SoftReset}
 use Rattle.hba_regs.specs.declared.soft_reset.SoftReset.TheVariants.{Off}
+use Rattle.ncq_journal.specs.Halted.{halted}
 use Rattle.ncq_journal.specs.Work.{Work, Read, Write}
 use Rattle.ahci_table.specs.Window.{WindowState}
 use Rattle.hba_command.specs.Span.{SpanFields}
@@ -73,6 +74,15 @@ abbrev pub has_queued : Option CommandView → Bool
 has_queued None = false
 has_queued (Some (Fetched t list bytes)) = not (is_alone t)
 has_queued (Some (Sent t list)) = not (is_alone t)
+
+-- the device aborts each command but one that reads log 10h, until that is read or a reset comes: a queued command has failed, or one that is not queued
+-- came while queued ones were outstanding (ACS-3, "Native Command Queuing")
+abbrev pub is_failed : HbaView → Bool
+is_failed h = halted h.port.past || is_some h.device.collision
+
+-- the command of a slot is not queued, and comes while queued ones are outstanding
+abbrev pub comes_under_queued : HbaView → ℕ → Bool
+comes_under_queued h slot = has_alone (command_at h slot) && (list_any has_queued h.slots && not (is_failed h))
 
 -- the sectors are on the disk
 abbrev pub is_on : PortView → SpanFields → Bool

@@ -3,15 +3,16 @@ use Rattle.std.specs.Prelude.{ℕ, ◌/◌, ◌%◌, ◌^◌, Bool, true, false,
 use Rattle.sata_fis.specs.Encoding.{d2h_bytes}
 use Rattle.sata_fis.specs.Fields.{D2hFields}
 use Rattle.hba_command.specs.Action.{action_of}
-use Rattle.hba_command.specs.Device.{after_srst}
+use Rattle.hba_command.specs.Device.{after_signature, after_srst}
 use Rattle.hba_command.specs.Power.{after_reset}
 use Rattle.hba_command.specs.declared.action.Action.{Action}
 use Rattle.hba_command.specs.declared.action.Action.TheVariants.{Control}
+use Rattle.hba_regs.specs.HbaState.{HbaPort}
 use Rattle.hba_regs.specs.Signatures.{signature_of, signed_status}
 use Rattle.hba_regs.specs.Receiving.{after_srst_cleared, after_srst_set, moved, signature_moves}
 use Rattle.hba_regs.specs.declared.device_kind.DeviceKind.{DeviceKind}
 use Rattle.hba_regs.specs.declared.signature.Signature.{Signature}
-use Rattle.hba_regs.specs.declared.signature.Signature.TheVariants.{Unposted}
+use Rattle.hba_regs.specs.declared.signature.Signature.TheVariants.{Due, Unposted}
 use Rattle.hba_regs.specs.declared.soft_reset.SoftReset.{SoftReset}
 use Rattle.hba_regs.specs.declared.soft_reset.SoftReset.TheVariants.{Held}
 use Rattle.ncq_journal.specs.History.{History}
@@ -19,8 +20,9 @@ use Rattle.hba_regs.specs.declared.consequence.Consequence.TheVariants.{LinkRese
 use Rattle.ahci_hba.specs.Delivering.{received_put}
 use Rattle.ahci_hba.specs.Dropping.{emptied, handed_out, is_reset, port_after}
 use Rattle.ahci_hba.specs.HbaView.{CommandView, Fetched, HbaView}
+use Rattle.ahci_hba.specs.Keeping.{keeping}
 use Rattle.ahci_hba.specs.Moving.{answering, ending_of}
-use Rattle.ahci_hba.specs.Queueing.{command_at, is_idle, only_after}
+use Rattle.ahci_hba.specs.Queueing.{command_at, is_idle, is_off, only_after}
 use Rattle.ahci_hba.specs.declared.last_fis.LastFis.TheVariants.{Signature as Sign}
 
 -- the FIS with the signature of a device: error 01h, which says that it has passed its diagnostic, and no I
@@ -41,8 +43,16 @@ may_sign h = is_idle h.work && signature_moves h.registers.port h.registers.port
 abbrev pub signing_for : HbaView → DeviceKind → HbaView
 signing_for h kind = answering h (only_after (received_put h.registers 0x40 (d2h_bytes (signature kind)))) (ending_of true (Sign kind))
 
+-- it is sent now, because of a COMRESET: not because of a software reset, which its second control FIS ends
+abbrev pub is_due : Signature → Bool
+is_due Due = true
+is_due other = false
+
+abbrev pub comes_by_comreset : HbaPort → Bool
+comes_by_comreset p = is_due p.signature && is_off p.soft
+
 abbrev pub signing : HbaView → DeviceKind → HbaView
-signing h kind = signing_for h (sent_by h.registers.port.signature kind)
+signing h kind = keeping (signing_for h (sent_by h.registers.port.signature kind)) (after_signature (comes_by_comreset h.registers.port) h.device)
 
 -- what a slot's control FIS says of SRST
 abbrev pub control_of : Action → Option Bool

@@ -17,7 +17,7 @@ use Rattle.ahci_hba.specs.Executing.{IsExecuted, MayLackAt, is_aborted, is_alone
 use Rattle.sata_fis.specs.Fields.{QueuedFields}
 use Rattle.ahci_hba.specs.Failing.{fails_at, own_in}
 use Rattle.ahci_hba.specs.HbaView.{CommandView, Fetched, HbaView, WorkView, Served, Pio}
-use Rattle.ahci_hba.specs.Queueing.{IsAccepted, IsServed, Sends, asked_for, command_at, fetching, goes_to_port, has_alone, has_queued, has_tag, is_listening, is_on, is_ready, is_running, is_sent, list_in, may_fetch, task_in}
+use Rattle.ahci_hba.specs.Queueing.{IsAccepted, IsServed, Sends, asked_for, command_at, fetching, goes_to_port, has_alone, has_queued, has_tag, is_failed, is_listening, is_on, is_ready, is_running, is_sent, list_in, may_fetch, task_in}
 use Rattle.ahci_hba.specs.Recovering.{ReadsErrorLog, error_log_in}
 use Rattle.ahci_hba.specs.Resetting.{IsControlled, control_in, control_journal}
 use Rattle.ahci_hba.specs.declared.fault.HbaFault.{HbaFault}
@@ -51,10 +51,10 @@ abbrev pub work_at : Option CommandView → Work
 work_at (Some (Fetched t list bytes)) = asked_for t bytes
 work_at other = Read 0 0
 
--- a command goes to the port, which takes it
+-- a command goes to the port, which takes it; a port after a failure takes none
 abbrev pub may_send : HbaView → ℕ → Bool
 may_send h slot =
-    is_ready h && (goes_to_port h (command_at h slot) && not (is_some (op_refusal h.port slot (work_at (command_at h slot)))))
+    is_ready h && ((not (is_some h.device.collision) && goes_to_port h (command_at h slot)) && not (is_some (op_refusal h.port slot (work_at (command_at h slot)))))
 
 abbrev pub may_control : HbaView → ℕ → Bool
 may_control h slot = is_listening h && is_some (control_in (command_at h slot))
@@ -66,7 +66,7 @@ may_recover h slot =
 
 -- the device answers a command itself: it aborts it, or the port moves no sectors for it
 abbrev pub is_answered : HbaView → Action → Bool
-is_answered h (action.Queue q) = halted h.port.past || not (has_tag h q)
+is_answered h (action.Queue q) = is_failed h || not (has_tag h q)
 is_answered h (action.Sectors write span p) = is_aborted h (action.Sectors write span p) || not (is_on h.port span)
 is_answered h (action.Page Identify p) = is_aborted h (action.Page Identify p) || not (is_some (plain_refusal h.port))
 is_answered h (action.Page (Log (Pages l pages)) p) = true

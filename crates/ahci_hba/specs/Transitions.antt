@@ -20,14 +20,14 @@ pub data Transition : Type 0 where
   Stuck : (slot : ℕ) → (c : Bool) → Transition
   -- NDR:Accept to RegFIS:Entry, RegFIS:ClearCI and RegFIS:SetIntr, or ERR:FatalTaskfile
   RegFisEntry : (status error : ℕ) → (i : Bool) → (slot : ℕ) → Transition
-  -- the same with a FIS that no command asks for
+  -- the same with a FIS that no command asks for; or P:NotRunning to P:RegFisUpdate and P:RegFisPostToMem
   RegFisUnsolicited : Transition
   -- NDR:Accept to SDB:Entry and SDB:SetIntr, or ERR:FatalTaskfile
   SdbEntry : (status error : ℕ) → (i : Bool) → (sactive : ℕ) → Transition
   -- NDR:Accept to PIO:Entry
-  PioEntry : (status error : ℕ) → Transition
-  -- DR:Receive or DX:Transmit to PIO:Update, PIO:ClearCI and PIO:SetIntr
-  PioUpdate : (e_status : ℕ) → (i : Bool) → (slot : ℕ) → Transition
+  PioEntry : (status : ℕ) → Transition
+  -- DR:Receive or DX:Transmit to PIO:Update, PIO:ClearCI and PIO:SetIntr, or ERR:FatalTaskfile
+  PioUpdate : (e_status error : ℕ) → (i : Bool) → (slot : ℕ) → Transition
   -- DR:Receive, with data for which the list has no room
   DrOverflow : Transition
   -- any state to ERR:Fatal
@@ -49,8 +49,8 @@ after (Stuck slot c) p = stuck slot c p
 after (RegFisEntry status error i slot) p = reg_fis_entry status error i slot p
 after RegFisUnsolicited p = reg_fis_unsolicited p
 after (SdbEntry status error i sactive) p = sdb_entry status error i sactive p
-after (PioEntry status error) p = pio_entry status error p
-after (PioUpdate e_status i slot) p = pio_update e_status i slot p
+after (PioEntry status) p = pio_entry status p
+after (PioUpdate e_status error i slot) p = pio_update e_status error i slot p
 after DrOverflow p = dr_overflow p
 after (ErrFatal fatal) p = err_fatal fatal p
 after (RegFisUpdate kind) p = p_reg_fis_update kind p
@@ -82,7 +82,7 @@ abbrev pub answers_command : Transition → HbaPort → ℕ → Bool
 answers_command (CfisSuccess s c) p slot = c && nat_eq s slot
 answers_command (Stuck s c) p slot = c && nat_eq s slot
 answers_command (RegFisEntry status error i s) p slot = ends_well status && nat_eq s slot
-answers_command (PioUpdate e_status i s) p slot = ends_well e_status && nat_eq s slot
+answers_command (PioUpdate e_status error i s) p slot = ends_well e_status && nat_eq s slot
 answers_command (RegFisUpdate kind) p slot = ends_reset p.soft slot
 answers_command other p slot = false
 

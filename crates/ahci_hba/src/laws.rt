@@ -1,18 +1,23 @@
 //! What follows from the contracts of `Hba`. The functions change nothing: each stands for its clauses.
-ghost use Rattle.std.specs.Prelude.{◌≡◌, ◌<◌, ◌&&◌, ℕ, List, Option, None, Some, not, true, false};
+ghost use Rattle.std.specs.Prelude.{◌≡◌, ◌<◌, ◌&&◌, ℕ, List, Option, None, Some, is_some, not, true, false};
 ghost use Rattle.std.specs.List.{list_any};
 ghost use Rattle.word_bits.specs.Places.{has_place};
 ghost use Rattle.hba_regs.specs.Linking.{is_up};
 ghost use Rattle.hba_regs.specs.PortStates.{p_idle_selects};
 ghost use Rattle.hba_regs.specs.declared.device_kind.DeviceKind.{DeviceKind};
+ghost use Rattle.hba_command.specs.declared.action.Action.{Action};
+ghost use Rattle.hba_command.specs.declared.action.Action.TheVariants.{Queue};
+ghost use Rattle.hba_command.specs.declared.entry.PrdEntry.{PrdEntry};
 ghost use Rattle.hba_command.specs.declared.power.Power.TheVariants.{Sleep};
 ghost use Rattle.ncq_journal.specs.History.{History};
+ghost use Rattle.sata_fis.specs.Fields.{QueuedFields};
+ghost use Rattle.ahci_hba.specs.Executing.{Executes, is_aborted, reads_error_log};
 ghost use Rattle.ahci_hba.specs.Failing.{Fails, ended_at, own_in};
 ghost use Rattle.ahci_hba.specs.Moving.{put_done, spoiled, supplied, unmapped};
 ghost use Rattle.ahci_hba.specs.PoweringOn.{powered_on};
-ghost use Rattle.ahci_hba.specs.Queueing.{has_alone, is_idle, is_listening, waits};
+ghost use Rattle.ahci_hba.specs.Queueing.{command_at, has_alone, has_queued, is_failed, is_idle, is_listening, waits};
 ghost use Rattle.ahci_hba.specs.Resetting.{signing};
-ghost use Rattle.ahci_hba.specs.Stepping.{IsTaken, answers, next_step};
+ghost use Rattle.ahci_hba.specs.Stepping.{IsTaken, answers, is_answered, may_send, next_step};
 ghost use Rattle.ahci_hba.specs.Transitions.{Takes, Transition, after, answers_command, answers_tag};
 ghost use Rattle.ahci_hba.specs.declared.step.Step.TheVariants as step;
 
@@ -40,6 +45,27 @@ pub fn a_device_in_sleep_answers_no_command<A: Allocator, S: SectorStore>(hba: &
 pub fn a_halted_port_takes_no_step<A: Allocator, S: SectorStore>(hba: &Hba<A, S>)
     requires { hba.now.registers.port.halted ≡ true }
     ensures { (slot : ℕ) → next_step hba.now slot ≡ None }
+{}
+
+/// A command that is not queued and comes while queued ones are outstanding is aborted, and so are they (ACS-3, "Native Command Queuing"): the device has failed
+/// then.
+pub fn a_command_under_queued_ones_aborts_them<A: Allocator, S: SectorStore>(
+    old: &Hba<A, S>,
+    new: &Hba<A, S>,
+    slot: Slot,
+)
+    requires alone { has_alone (command_at old.now slot) ≡ true }
+    requires queued { list_any has_queued old.now.slots ≡ true }
+    ensures aborted { (action : Action) → is_aborted old.now action ≡ true }
+    ensures failed { (action : Action) (list : List PrdEntry) → Executes true slot action list old.now new.now → is_failed new.now ≡ true }
+{}
+
+/// A device that waits for log 10h to be read takes no command into its queue, and aborts each other command but one that reads the log.
+pub fn a_failed_device_aborts_commands<A: Allocator, S: SectorStore>(hba: &Hba<A, S>)
+    requires { is_some hba.now.device.collision ≡ true }
+    ensures sends { (slot : ℕ) → may_send hba.now slot ≡ false }
+    ensures queued { (queued : QueuedFields) → is_answered hba.now (Queue queued) ≡ true }
+    ensures others { (action : Action) → reads_error_log action ≡ false → is_aborted hba.now action ≡ true }
 {}
 
 /// Without a link no slot has a step: neither once it is lost nor while the disk is unplugged.

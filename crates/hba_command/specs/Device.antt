@@ -1,13 +1,16 @@
 -- What the disk keeps between commands, and what changes it (ACS-3, "SET FEATURES", "SET MULTIPLE MODE", "SMART" and "WRITE BUFFER", by the titles of
 -- subcommands).
-use Rattle.std.specs.Prelude.{ℕ, ◌+◌, ◌-◌, ◌*◌, ◌%◌, Bool, true, false, not, ◌==◌, ◌||◌, List, length, replicate, slice_index, slice_set, if◌then◌else◌}
+use Rattle.std.specs.Prelude.{ℕ, ◌+◌, ◌-◌, ◌*◌, ◌%◌, Bool, true, false, not, ◌==◌, ◌&&◌, ◌||◌, List, Option, None, Some, length, replicate, slice_index, slice_set, if◌then◌else◌}
+use Rattle.sata_fis.specs.Places.{bit}
 use Rattle.hba_command.specs.DiskPage.{needs_smart}
 use Rattle.hba_command.specs.Identity.{usual_identity}
+use Rattle.hba_command.specs.PhyEvents.{no_events, with_ending, with_signature}
 use Rattle.hba_command.specs.Words.{with_word}
 use Rattle.hba_command.specs.declared.change.Change.{Change}
 use Rattle.hba_command.specs.declared.change.Change.TheVariants.{WriteCache, LookAhead, PowerLevel, Reverting, DmaMode, Multiple, Smart, Test, NothingSmart}
 use Rattle.hba_command.specs.declared.device.Device.{Device}
 use Rattle.hba_command.specs.declared.disk_page.DiskPage.{DiskPage}
+use Rattle.hba_command.specs.declared.disk_page.DiskPage.TheVariants.{PhyEvents}
 use Rattle.hba_command.specs.declared.identity.Identity.{Identity}
 use Rattle.hba_command.specs.declared.multiple_mode.MultipleMode.TheVariants.{Disabled}
 use Rattle.hba_command.specs.declared.reply.Reply.{Reply}
@@ -31,6 +34,8 @@ new_device = record {
   tests = with_word 0 0x0001 (replicate 512 0);
   more_tests = with_word 0 0x0001 (replicate 512 0);
   buffer = replicate 512 0;
+  collision = None;
+  phy = no_events;
 }
 
 -- a disk with a volatile write cache has it enabled (profile)
@@ -41,13 +46,41 @@ abbrev pub named : Identity → Device → Device
 named identity d = record d { identity = identity }
 
 -- a hardware reset or power-on: the settings of SET FEATURES and SET MULTIPLE MODE are the defaults. SMART stays enabled or disabled ("SMART ENABLE OPERATIONS"), and its
--- logs stay
+-- logs stay, and so do the Phy event counters (Serial ATA, "Phy Event Counters"); an error that is pending for log 10h is gone
 abbrev pub reset_device : Device → Device
-reset_device d = record d { cache = d.has_cache; look_ahead = true; power_level = 0; reverts = false; dma_mode = 0x45; multiple = Disabled }
+reset_device d =
+    record d { cache = d.has_cache; look_ahead = true; power_level = 0; reverts = false; dma_mode = 0x45; multiple = Disabled; collision = None }
 
--- a software reset: it reverts to the defaults only if SET FEATURES CCh has enabled that ("Enable/disable reverting to defaults")
+-- power-on: the counters aren't kept over a power cycle
+abbrev pub power_cycled : Device → Device
+power_cycled d = record (reset_device d) { phy = no_events }
+
+-- a software reset: it reverts to the defaults only if SET FEATURES CCh has enabled that ("Enable/disable reverting to defaults"); it ends an error that is
+-- pending for log 10h
 abbrev pub after_srst : Device → Device
-after_srst d = if d.reverts then reset_device d else d
+after_srst d = if d.reverts then reset_device d else record d { collision = None }
+
+-- a command has ended with this status and error. If it is not queued, and has come while queued ones were outstanding, ERR (bit 0 of the status) aborts them
+-- too (ACS-3, "Native Command Queuing"), and its error is pending until log 10h is read
+abbrev pub collided : (comes_under_queued : Bool) → (status error : ℕ) → Option ℕ → Option ℕ
+collided comes_under_queued status error was = if comes_under_queued && bit 0 status then Some error else was
+
+abbrev pub after_ending : (comes_under_queued : Bool) → (status error : ℕ) → Device → Device
+after_ending comes_under_queued status error d =
+    record d { collision = collided comes_under_queued status error d.collision; phy = with_ending status error d.phy }
+
+-- log 10h is read
+abbrev pub after_error_log : Device → Device
+after_error_log d = record d { collision = None }
+
+-- the signature is sent, because of a COMRESET or not
+abbrev pub after_signature : (by_comreset : Bool) → Device → Device
+after_signature by_comreset d = if by_comreset then record d { phy = with_signature d.phy } else d
+
+-- a page that the disk has ready is read: the counters of log 11h are reset then, if the command says so
+abbrev pub after_page : DiskPage → Device → Device
+after_page (PhyEvents true) d = record d { phy = no_events }
+after_page page d = d
 
 -- a volatile write cache that is not there can be neither enabled nor disabled; while SMART operations are disabled, SMART ENABLE OPERATIONS is the
 -- only subcommand of SMART that is not aborted

@@ -10,7 +10,7 @@ abbrev pub needs_smart : DiskPage → Bool
 needs_smart Directory = false
 needs_smart Errors = true
 needs_smart Tests = true
-needs_smart PhyEvents = false
+needs_smart (PhyEvents resets) = false
 needs_smart SmartData = true
 needs_smart SmartThresholds = true
 needs_smart SmartDirectory = true
@@ -23,7 +23,7 @@ abbrev pub page_addressing : DiskPage → Addressing
 page_addressing Directory = Bits48
 page_addressing Errors = Bits48
 page_addressing Tests = Bits48
-page_addressing PhyEvents = Bits48
+page_addressing (PhyEvents resets) = Bits48
 page_addressing SmartData = Bits28
 page_addressing SmartThresholds = Bits28
 page_addressing SmartDirectory = Bits28

@@ -1,6 +1,7 @@
 -- What the pages say that the disk has ready (ACS-3, by the titles of commands and logs).
 use Rattle.std.specs.Prelude.{List, ℕ, replicate}
 use Rattle.hba_command.specs.Pages.{directory_page}
+use Rattle.hba_command.specs.PhyEvents.{events_page}
 use Rattle.hba_command.specs.Words.{with_checksum, with_word}
 use Rattle.hba_command.specs.declared.device.Device.{Device}
 use Rattle.hba_command.specs.declared.disk_page.DiskPage.{DiskPage}
@@ -9,11 +10,6 @@ use Rattle.hba_command.specs.declared.disk_page.DiskPage.TheVariants.{Directory,
 -- the revision, and no entry: a log of errors with none, whose index and count are 0, and thresholds of no attributes
 abbrev pub revision_page : List ℕ
 revision_page = with_word 0 0x0001 (replicate 512 0)
-
--- two counters of a word each (Serial ATA, "Phy Event Counters"): 001h, commands that failed by an error of ICRC, and 00Ah, signatures after COMRESET; identifier
--- 000h ends them. Both are 0: the disk counts neither (profile)
-abbrev pub phy_events : List ℕ
-phy_events = with_word 4 0x100A (with_word 2 0x1001 (replicate 512 0))
 
 -- "SMART READ DATA": no attributes; byte 362: the off-line data are collected without error; byte 363: so was the self-test; byte 367: EXECUTE OFF-LINE IMMEDIATE
 -- (bit 0), short and extended self-test (4); bytes 368 and 369: SMART data are saved before a power mode changes (0), and by autosave (1); byte 370: errors are logged (0);
@@ -30,7 +26,7 @@ abbrev pub ready_page : Device → DiskPage → List ℕ
 ready_page d Directory = directory_page
 ready_page d Errors = with_checksum revision_page
 ready_page d Tests = with_checksum d.more_tests
-ready_page d PhyEvents = with_checksum phy_events
+ready_page d (PhyEvents resets) = with_checksum (events_page d.phy)
 ready_page d SmartData = with_checksum smart_data
 ready_page d SmartThresholds = with_checksum revision_page
 ready_page d SmartDirectory = smart_directory

@@ -13,8 +13,10 @@ pub mod Words
 pub mod WideName
 pub mod MultipleMode
 pub mod Identity
+pub mod PhyEvents
 pub mod Device
 pub mod Pages
 pub mod IdentifyLog
+pub mod NotQueued
 pub mod LongLogs
 pub mod DiskPages

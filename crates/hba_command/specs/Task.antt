@@ -37,7 +37,8 @@ abbrev pub first_page : H2dFields → ℕ
 first_page f = f.lba / 2 ^ 8 % 256 + 256 * (f.lba / 2 ^ 32 % 256)
 
 -- log 00h is the directory, log 03h the Extended Comprehensive SMART Error log, log 04h the Device Statistics log, log 07h the Extended SMART
--- Self-Test log, log 10h the NCQ Command Error log, log 11h the SATA Phy Event Counters log, log 30h the IDENTIFY DEVICE data log; there is no other
+-- Self-Test log, log 10h the NCQ Command Error log, log 11h the SATA Phy Event Counters log, log 30h the IDENTIFY DEVICE data log; there is no other. Bit 0 of features resets the
+-- counters of log 11h once they are read
 abbrev pub pages_in : ℕ → ℕ
 pages_in log =
     if log == 0x00 || log == 0x03 || log == 0x07 || log == 0x10 || log == 0x11 then 1
@@ -58,7 +59,7 @@ log_task f p =
     else (if log_of f == 0x04 then ReadLog (Pages Statistics (pages_asked f)) p
     else (if log_of f == 0x07 then ReadPage Tests p
     else (if log_of f == 0x10 then ReadLog QueuedError p
-    else (if log_of f == 0x11 then ReadPage PhyEvents p
+    else (if log_of f == 0x11 then ReadPage (PhyEvents (f.features % 2 == 1)) p
     else (if log_of f == 0x30 then ReadLog (Pages IdentifyData (pages_asked f)) p
     else Unknown)))))))
 

@@ -1,16 +1,19 @@
 //! What the disk keeps between commands (ACS-3, "SET FEATURES", "SET MULTIPLE MODE", "SMART", "WRITE BUFFER" and "IDENTIFY DEVICE").
 
 ghost use Rattle.std.specs.Prelude.{◌≡◌, replicate};
-ghost use Rattle.hba_command.specs.Device.{after_change, after_srst, after_store, allows, allows_page, buffered, changed, device_after_reply, more_tested, named, new_device, reset_device, tested, with_cache};
+ghost use Rattle.hba_command.specs.Device.{after_change, after_ending, after_error_log, after_page, after_signature, after_srst, after_store, allows, allows_page, buffered};
+ghost use Rattle.hba_command.specs.Device.{changed, collided, device_after_reply, more_tested, named, new_device, power_cycled, reset_device, tested, with_cache};
 ghost use Rattle.hba_command.specs.Words.{with_word};
 
 use crate::change::Change;
 use crate::disk_page::{DiskPage, needs_smart};
 use crate::identity::Identity;
 use crate::multiple_mode::MultipleMode;
+use crate::phy_events::{PhyEvents, with_ending, with_signature};
 use crate::reply::Reply;
 use crate::store::Store;
 use crate::words::put_word;
+use sata_fis::is_set;
 
 /// What the disk keeps between commands, besides its sectors, its queue and its power mode.
 #[derive(Clone, Copy)]
@@ -39,6 +42,10 @@ pub struct Device {
     pub more_tests: [u8; 512],
     /// What WRITE BUFFER has written.
     pub buffer: [u8; 512],
+    /// The error of a command that is not queued and came while queued ones were outstanding, until log 10h is read.
+    pub collision: Option<u8>,
+    /// What log 11h counts.
+    pub phy: PhyEvents,
 }
 
 /// A log of self-tests with none.
@@ -91,6 +98,8 @@ impl Device {
             tests: no_tests(),
             more_tests: no_tests(),
             buffer: [0; 512],
+            collision: None,
+            phy: PhyEvents::new(),
         }
     }
 }
@@ -127,7 +136,19 @@ pub fn reset_device(device: &Device) -> Device
         reverts: false,
         dma_mode: 0x45, // Ultra DMA mode 5
         multiple: MultipleMode::Disabled,
+        collision: None,
         ..*device
+    }
+}
+
+/// The disk behind power-on, which resets the counters of log 11h too.
+pub fn power_cycled(device: &Device) -> Device
+    ensures { result ≡ power_cycled device.now }
+{
+    let reset = reset_device(device);
+    Device {
+        phy: PhyEvents::new(),
+        ..reset
     }
 }
 
@@ -138,7 +159,66 @@ pub fn after_srst(device: &Device) -> Device
     if device.reverts {
         reset_device(device)
     } else {
+        after_error_log(device)
+    }
+}
+
+/// The error that is pending for log 10h behind a command that has ended.
+fn collided(comes_under_queued: bool, status: u8, error: u8, was: Option<u8>) -> Option<u8>
+    ensures { result ≡ collided comes_under_queued status error was }
+{
+    if comes_under_queued && is_set(status, 0) {
+        return Some(error);
+    }
+    was
+}
+
+/// The disk behind a command that has ended with this status and error: one that is not queued and has come while queued ones were outstanding, or
+/// another one.
+pub fn after_ending(device: &Device, comes_under_queued: bool, status: u8, error: u8) -> Device
+    ensures { result ≡ after_ending comes_under_queued status error device.now }
+{
+    Device {
+        collision: collided(comes_under_queued, status, error, device.collision),
+        phy: with_ending(device.phy, status, error),
+        ..*device
+    }
+}
+
+/// The disk once log 10h is read.
+pub fn after_error_log(device: &Device) -> Device
+    ensures { result ≡ after_error_log device.now }
+{
+    Device {
+        collision: None,
+        ..*device
+    }
+}
+
+/// The disk once its signature is sent, because of a COMRESET or not.
+pub fn after_signature(device: &Device, by_comreset: bool) -> Device
+    ensures { result ≡ after_signature by_comreset device.now }
+{
+    if by_comreset {
+        Device {
+            phy: with_signature(device.phy),
+            ..*device
+        }
+    } else {
         *device
+    }
+}
+
+/// The disk once a page that it has ready is read.
+pub fn after_page(device: &Device, page: DiskPage) -> Device
+    ensures { result ≡ after_page page device.now }
+{
+    match page {
+        DiskPage::PhyEvents { resets: true } => Device {
+            phy: PhyEvents::new(),
+            ..*device
+        },
+        _ => *device, // it changes nothing
     }
 }
 

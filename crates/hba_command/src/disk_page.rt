@@ -12,8 +12,8 @@ pub enum DiskPage {
     Errors,
     /// Log 07h by READ LOG EXT, "Extended SMART Self-Test log".
     Tests,
-    /// Log 11h by READ LOG EXT, "SATA Phy Event Counters log".
-    PhyEvents,
+    /// Log 11h by READ LOG EXT, "SATA Phy Event Counters log", after which the counters are reset or not (Serial ATA, "Phy Event Counters").
+    PhyEvents { resets: bool },
     /// SMART READ DATA.
     SmartData,
     /// SMART READ THRESHOLDS.
@@ -33,7 +33,7 @@ pub(crate) fn needs_smart(page: DiskPage) -> bool
     ensures { result ≡ needs_smart page }
 {
     match page {
-        DiskPage::Directory | DiskPage::PhyEvents | DiskPage::Buffer => false,
+        DiskPage::Directory | DiskPage::PhyEvents { .. } | DiskPage::Buffer => false,
         DiskPage::Errors | DiskPage::Tests => true,
         DiskPage::SmartData | DiskPage::SmartThresholds => true,
         DiskPage::SmartDirectory | DiskPage::SmartErrors | DiskPage::SmartTests => true,
@@ -45,7 +45,7 @@ pub(crate) fn page_addressing(page: DiskPage) -> Addressing
     ensures { result ≡ page_addressing page }
 {
     match page {
-        DiskPage::Directory | DiskPage::Errors | DiskPage::Tests | DiskPage::PhyEvents =>
+        DiskPage::Directory | DiskPage::Errors | DiskPage::Tests | DiskPage::PhyEvents { .. } =>
             Addressing::Bits48,
         DiskPage::SmartData | DiskPage::SmartThresholds | DiskPage::SmartDirectory =>
             Addressing::Bits28,

@@ -1,11 +1,12 @@
 //! The pages that the disk has ready (ACS-3, "SMART", "READ LOG EXT" and "READ BUFFER").
 
 ghost use Rattle.std.specs.Prelude.{◌≡◌};
-ghost use Rattle.hba_command.specs.{DiskPages.{phy_events, ready_page, revision_page, smart_data, smart_directory}, Words.{with_checksum}};
+ghost use Rattle.hba_command.specs.{DiskPages.{ready_page, revision_page, smart_data, smart_directory}, Words.{with_checksum}};
 
 use crate::device::Device;
 use crate::disk_page::DiskPage;
 use crate::pages::directory_page;
+use crate::phy_events::events_page;
 use crate::words::{put_checksum, put_word};
 
 /// A page with a checksum.
@@ -23,16 +24,6 @@ fn revision_page() -> [u8; 512]
 {
     let mut page = [0; 512];
     put_word(&mut page, 0, 0x0001);
-    page
-}
-
-/// Log 11h without its checksum: two counters of a word each, which are 0.
-fn phy_events() -> [u8; 512]
-    ensures { result ≡ phy_events }
-{
-    let mut page = [0; 512];
-    put_word(&mut page, 2, 0x1001); // commands that failed by an error of ICRC
-    put_word(&mut page, 4, 0x100A); // signatures after COMRESET
     page
 }
 
@@ -71,7 +62,7 @@ pub fn ready_page(device: &Device, page: DiskPage) -> [u8; 512]
             checked(&revision_page())
         }
         DiskPage::Tests => checked(&device.more_tests),
-        DiskPage::PhyEvents => checked(&phy_events()),
+        DiskPage::PhyEvents { .. } => checked(&events_page(device.phy)),
         DiskPage::SmartData => checked(&smart_data()),
         DiskPage::SmartDirectory => smart_directory(),
         DiskPage::SmartTests => checked(&device.tests),

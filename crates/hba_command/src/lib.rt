@@ -19,8 +19,10 @@ mod log;
 mod log_pages;
 mod long_logs;
 mod multiple_mode;
+mod not_queued;
 mod page;
 mod pages;
+mod phy_events;
 mod power;
 mod protocol;
 mod reply;
@@ -35,8 +37,8 @@ pub use action::{Action, action_of, is_write, moved_by};
 pub use addressing::{Addressing, addressed, addressing_of};
 pub use change::Change;
 pub use device::{
-    Device, after_srst, after_store, allows, allows_page, device_after_reply, named, reset_device,
-    with_cache,
+    Device, after_ending, after_error_log, after_page, after_signature, after_srst, after_store,
+    allows, allows_page, device_after_reply, named, power_cycled, reset_device, with_cache,
 };
 pub use disk_page::DiskPage;
 pub use disk_pages::ready_page;
@@ -48,8 +50,10 @@ pub use log::{Log, LongLog};
 pub use log_pages::LogPages;
 pub use long_logs::long_log_page;
 pub use multiple_mode::{MultipleMode, block_sectors, lacks_blocks};
+pub use not_queued::unfailed_page;
 pub use page::Page;
 pub use pages::{controller_page, not_queued_page};
+pub use phy_events::PhyEvents;
 pub use power::{Power, after_reply, after_reset, is_awake, needs_medium, power_count};
 pub use protocol::Protocol;
 pub use reply::Reply;

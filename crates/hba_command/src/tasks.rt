@@ -79,7 +79,12 @@ fn log_task(h2d: &H2d, protocol: Protocol) -> Task
         ),
         0x07 => Task::ReadPage(DiskPage::Tests, protocol),
         0x10 => Task::ReadLog(Log::QueuedError, protocol),
-        0x11 => Task::ReadPage(DiskPage::PhyEvents, protocol),
+        0x11 => Task::ReadPage(
+            DiskPage::PhyEvents {
+                resets: h2d.features % 2 == 1,
+            },
+            protocol,
+        ),
         0x30 => {
             Task::ReadLog(
                 Log::Pages(LongLog::IdentifyData, LogPages { first, count }),

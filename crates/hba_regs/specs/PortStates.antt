@@ -102,9 +102,13 @@ reg_fis_entry status error i slot p =
     else if bsy_or_drq_of status then reg_fis_set_intr i q
     else reg_fis_clear_ci i slot q
 
--- RegFIS:Entry of a FIS that no command asks for, with I, status 50h and error 00h: pIssueSlot is none, so that RegFIS:ClearCI leaves PxCI
+-- a FIS that no command asks for, with I, status 50h and error 00h. While ST is 1, RegFIS:Entry: pIssueSlot is none, so that RegFIS:ClearCI leaves PxCI.
+-- While ST is 0, P:NotRunning to P:RegFisUpdate and P:RegFisPostToMem (section 5.3.2), from which the port goes back to P:NotRunning: RegFIS:SetIntr is
+-- not on the way, whatever I is
 abbrev pub reg_fis_unsolicited : HbaPort → HbaPort
-reg_fis_unsolicited p = reg_fis_set_intr true (record p { sts = 0x50; err = 0x00 })
+reg_fis_unsolicited p =
+    let q = record p { sts = 0x50; err = 0x00 } in
+    if p.st then reg_fis_set_intr true q else q
 
 -- ---- SDB, "Set Device Bits FIS Receive"
 
@@ -120,11 +124,10 @@ sdb_entry status error i sactive p =
 
 -- ---- PIO, "PIO Setup Receive"
 
--- PIO:Entry: the status and the error are taken; ERR is 1, or the data move (DR:Receive, DX:Transmit)
-abbrev pub pio_entry : (status error : ℕ) → HbaPort → HbaPort
-pio_entry status error p =
-    let q = record p { sts = status; err = error } in
-    if err_of status then err_fatal_taskfile q else q
+-- PIO:Entry: the status is taken. The error, E_Status and I are kept as pPioErr, pPioESts and pPioIbit, and the data move (DR:Receive, DX:Transmit),
+-- with ERR in the status too
+abbrev pub pio_entry : (status : ℕ) → HbaPort → HbaPort
+pio_entry status p = record p { sts = status }
 
 -- PIO:SetIntr: pPioIbit is 1, or not; PIO:SetIS sets PSS
 abbrev pub pio_set_intr : (i : Bool) → HbaPort → HbaPort
@@ -134,11 +137,11 @@ pio_set_intr i p = record p { is = raised i pss p.is }
 abbrev pub pio_clear_ci : (i : Bool) → (slot : ℕ) → HbaPort → HbaPort
 pio_clear_ci i slot p = pio_set_intr i (record p { ci = without_place p.ci slot })
 
--- PIO:Update, once the data have moved: the status is pPioESts; ERR is 1, BSY and DRQ are 0, or neither. PSS is set with ERR too: the table
--- goes to ERR:FatalTaskfile at once, but the text of the bit sets it whether the data moved without error or not (section 3.3.5)
-abbrev pub pio_update : (e_status : ℕ) → (i : Bool) → (slot : ℕ) → HbaPort → HbaPort
-pio_update e_status i slot p =
-    let q = record p { sts = e_status } in
+-- PIO:Update, once the data have moved: the status is pPioESts, and the error pPioErr; ERR is 1, BSY and DRQ are 0, or neither. PSS is set with ERR
+-- too: the table goes to ERR:FatalTaskfile at once, but the text of the bit sets it whether the data moved without error or not (section 3.3.5)
+abbrev pub pio_update : (e_status error : ℕ) → (i : Bool) → (slot : ℕ) → HbaPort → HbaPort
+pio_update e_status error i slot p =
+    let q = record p { sts = e_status; err = error } in
     if err_of e_status then err_fatal_taskfile (pio_set_intr i q)
     else if bsy_or_drq_of e_status then pio_set_intr i q
     else pio_clear_ci i slot q

@@ -4,9 +4,10 @@ ghost use Rattle.std.specs.Prelude.{◌≡◌, ◌≢◌, ◌+◌, ◌*◌, ◌/
 ghost use Rattle.word_bits.specs.Places.{bits, has_place, no_places, union, with_place};
 ghost use Rattle.hba_regs.specs.HbaState.{HbaPort, link_changed, powered_with};
 ghost use Rattle.hba_regs.specs.InterfaceErrors.{accepts_fis, interface_failed, unknown_received};
-ghost use Rattle.hba_regs.specs.Interrupts.{interrupts, is_pending};
+ghost use Rattle.hba_regs.specs.Interrupts.{dhrs, interrupts, is_pending};
 ghost use Rattle.hba_regs.specs.LinkEvents.{found, lost, plugged, unplugged};
 ghost use Rattle.hba_regs.specs.Linking.{is_up};
+ghost use Rattle.hba_regs.specs.PortStates.{err_of, pio_entry, pio_update, reg_fis_unsolicited};
 ghost use Rattle.hba_regs.specs.RegisterTable.{offset_of, takes_ones};
 ghost use Rattle.hba_regs.specs.Reading.{word_at};
 ghost use Rattle.hba_regs.specs.Writing.{written, both};
@@ -22,6 +23,7 @@ use crate::access_size::AccessSize;
 use crate::hba_regs::HbaRegs;
 use crate::interface_error::InterfaceError;
 use crate::register::Register;
+use crate::slot::Slot;
 
 /// Reading changes nothing, at any offset and of any size.
 pub fn reading_changes_nothing(regs: &mut HbaRegs, off: u32, size: AccessSize) -> u64
@@ -252,3 +254,26 @@ pub fn a_comreset_finds_a_lost_device(regs: &HbaRegs)
 {
     regs.keeps_its_rules();
 }
+
+/// A D2H Register FIS that no command asks for sets no bit of PxIS while ST is 0, and none but DHRS while ST is 1.
+pub fn a_stopped_port_reports_no_register_fis(regs: &HbaRegs)
+    ensures stopped { regs.now.port.st ≡ false → interrupts (reg_fis_unsolicited regs.now.port) ≡ interrupts regs.now.port }
+    ensures started { regs.now.port.st ≡ true → (reg_fis_unsolicited regs.now.port).is ≡ with_place regs.now.port.is dhrs }
+{}
+
+/// The error of a PIO Setup FIS takes effect once its data have moved: PIO:Entry neither halts the port nor sets PxTFD.ERR or PxIS, and PIO:Update
+/// with ERR in E_Status halts it, with the error in PxTFD.
+pub fn an_error_of_pio_comes_after_its_data(
+    regs: &HbaRegs,
+    status: u8,
+    e_status: u8,
+    error: u8,
+    i: bool,
+    slot: Slot,
+)
+    ensures goes_on { (pio_entry status regs.now.port).halted ≡ regs.now.port.halted }
+    ensures keeps { (pio_entry status regs.now.port).err ≡ regs.now.port.err }
+    ensures reports { interrupts (pio_entry status regs.now.port) ≡ interrupts regs.now.port }
+    ensures halts { err_of e_status ≡ true → (pio_update e_status error i slot regs.now.port).halted ≡ true }
+    ensures tells { err_of e_status ≡ true → (pio_update e_status error i slot regs.now.port).err ≡ error }
+{}

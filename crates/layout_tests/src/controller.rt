@@ -107,10 +107,12 @@ enum Row {
     Register(u8, u8, bool, u8),
     /// A Set Device Bits FIS: status, error, I and SActive.
     Bits(u8, u8, bool, u32),
-    /// A PIO Setup FIS: status and error.
-    Pio(u8, u8),
-    /// The end of its data: E_Status, I and its slot.
-    EndPio(u8, bool, u8),
+    /// A PIO Setup FIS: status.
+    Pio(u8),
+    /// The end of its data: E_Status, error, I and its slot.
+    EndPio(u8, u8, bool, u8),
+    /// A D2H Register FIS that no command asks for.
+    Unsolicited,
     /// The device takes the control FIS of a slot, which sets SRST or clears it.
     Reset(bool, u8),
     /// The list of the device's data has no room for them.
@@ -162,7 +164,8 @@ fn goes(rt: &impl Abort, regs: &mut HbaRegs, number: usize, row: Row) {
             equal(rt, number, &regs.write(off, size, value), &consequence);
         }
         Row::Bits(status, error, i, sactive) => regs.receive_bits(status, error, i, sactive),
-        Row::Pio(status, error) => regs.receive_pio(status, error),
+        Row::Pio(status) => regs.receive_pio(status),
+        Row::Unsolicited => regs.receive_unsolicited(),
         Row::Fails(fatal) => regs.fail_fatally(fatal),
         Row::Overflows => regs.overflow(),
         Row::Event(event) => take_place(regs, event),
@@ -186,7 +189,9 @@ fn of_a_slot(rt: &impl Abort, regs: &mut HbaRegs, number: usize, row: Row) {
         Row::Register(status, error, i, slot) => {
             regs.receive_register(status, error, i, slot_of(rt, slot));
         }
-        Row::EndPio(status, i, slot) => regs.end_pio(status, i, slot_of(rt, slot)),
+        Row::EndPio(status, error, i, slot) => {
+            regs.end_pio(status, error, i, slot_of(rt, slot));
+        }
         Row::Reset(true, _) => regs.set_srst(),
         Row::Reset(false, slot) => regs.clear_srst(slot_of(rt, slot)),
         _ => stands(rt, regs, number, row),
@@ -337,4 +342,46 @@ static FATAL: [Row; 14] = [
 #[test]
 fn fatal_errors_halt_the_port_and_have_their_bits(rt: HostRuntime) {
     plays(&rt, FATAL.as_slice());
+}
+
+/// A D2H Register FIS that no command asks for, while ST is 0 and then 1 (AHCI 1.3.1, section 5.3: P:RegFisUpdate, RegFIS:SetIntr).
+static UNSOLICITED: [Row; 12] = [
+    Write(0x130, 0xffff_ffff),
+    Write(0x118, 0x0000_0016),
+    Row::Signature,
+    Read(0x120, 0x0000_0150),
+    Row::Unsolicited,
+    Read(0x120, 0x0000_0050),
+    Read(0x110, 0x0000_0000),
+    Write(0x118, 0x0000_0017),
+    Row::Unsolicited,
+    Read(0x120, 0x0000_0050),
+    Read(0x110, 0x0000_0001),
+    Halted(false),
+];
+
+#[test]
+fn a_stopped_port_takes_a_register_fis_without_dhrs(rt: HostRuntime) {
+    plays(&rt, UNSOLICITED.as_slice());
+}
+
+/// A PIO Setup FIS with ERR: its data move, and then the port halts with the error (AHCI 1.3.1, section 5.3, PIO:Entry and PIO:Update).
+static PIO_ERROR: [Row; 12] = [
+    Write(0x130, 0xffff_ffff),
+    Write(0x118, 0x0000_0017),
+    Row::Signature,
+    Write(0x138, 0x0000_0001),
+    Row::Send(0),
+    Row::Pio(0x59),
+    Read(0x120, 0x0000_0159),
+    Halted(false),
+    Row::EndPio(0x51, 0x40, true, 0),
+    Read(0x120, 0x0000_4051),
+    Read(0x110, 0x4000_0002),
+    Halted(true),
+];
+
+#[test]
+fn a_pio_error_takes_effect_once_the_data_have_moved(rt: HostRuntime) {
+    plays(&rt, PIO_ERROR.as_slice());
 }

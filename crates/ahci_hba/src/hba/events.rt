@@ -160,7 +160,7 @@ impl<A: Allocator + Copy, S: SectorStore> Hba<A, S> {
         let journal = self.reset_port(Consequence::Reset);
         self.registers.unplug();
         self.wake();
-        self.settle_device(Consequence::Reset);
+        self.cycle_power();
         self.empty();
         journal
     }

@@ -4,6 +4,8 @@ ghost use Rattle.std.specs.Prelude.{◌≡◌, ◌-◌, ◌<◌, ◌^◌, true, 
 ghost use Rattle.ahci_hba.specs.Queueing.{command_at, list_in, task_in};
 ghost use Rattle.ahci_hba.specs.Stepping.{fault_if, is_answered, is_answered_at, may_execute};
 ghost use Rattle.ahci_port.specs.{Faults.{plain_refusal}, PortView.{sectors_in}, Steps.{LacksRoom}};
+ghost use Rattle.ahci_hba.specs.Failing.{concluded};
+ghost use Rattle.ahci_hba.specs.Keeping.{device_ended, keeping};
 ghost use Rattle.ahci_hba.specs.Executing.{Flushes, Identifies, IsExecuted, MayLack, MayLackAt, Performs, aborted, changed_fis, first_missing, is_aborted, is_alone_fetched, native_max, paged, reads_error_log, replied, reply_fis, signed, smart_fis, verified};
 
 use crate::command::Command;
@@ -120,13 +122,13 @@ fn reads_error_log(action: &Action) -> bool
 }
 
 impl<A: Allocator, S: SectorStore> Hba<A, S> {
-    /// Why the device aborts a command that is not queued: queued ones are outstanding, or one has failed and its log is not read yet, but for a command
-    /// that reads it, or it is READ or WRITE MULTIPLE and no block size is set.
+    /// Why the device aborts a command that is not queued: queued ones are outstanding, or log 10h is to be read, but for a command that reads it, or it is
+    /// READ or WRITE MULTIPLE and no block size is set.
     fn is_aborted(&self, action: &Action) -> bool
         ensures { result ≡ is_aborted self.now action.now }
     {
         self.is_queueing()
-            || (self.port.halted() && !reads_error_log(action))
+            || (self.is_failed() && !reads_error_log(action))
             || self.has_no_blocks(action)
     }
 
@@ -148,7 +150,7 @@ impl<A: Allocator, S: SectorStore> Hba<A, S> {
         ensures { result ≡ is_answered self.now action.now }
     {
         match action {
-            Action::Queue(queued) => self.port.halted() || !self.has_tag(queued),
+            Action::Queue(queued) => self.is_failed() || !self.has_tag(queued),
             Action::Sectors { span, .. } => self.is_aborted(action) || !self.is_on(span),
             Action::Page(Page::Identify, _) | Action::Flush(_) => {
                 self.is_aborted(action) || self.port.plain_fault().is_none()
@@ -296,8 +298,18 @@ impl<A: Allocator + Copy, S: SectorStore> Hba<A, S> {
         }
     }
 
+    /// The device aborts the command of a slot, and with it queued ones that are outstanding.
+    fn abort(&mut self, slot: Slot)
+        ensures { self.new ≡ keeping (concluded self.old slot aborted) (device_ended self.old slot 0x41 0x04) }
+    {
+        let device = self.device_ended(slot, 0x41, 0x04);
+        self.conclude(slot, aborted());
+        self.keep(device);
+    }
+
     /// The device answers the command of a slot: it executes one that is not queued and that the port moves no sectors for, or it aborts the
-    /// command. A read past the last sector moves the sectors that there are.
+    /// command. A read past the last sector moves the sectors that there are. If queued commands are outstanding it aborts them too: none is taken, served or
+    /// sent any more, and each other command is aborted until log 10h is read or a reset comes (ACS-3, "Native Command Queuing").
     ///
     /// # Errors
     /// `NotReady` exactly if `may_execute` is false; else `OutOfMemory` if a page, a flush or a read's sectors want memory and an allocation failed,
@@ -313,7 +325,7 @@ impl<A: Allocator + Copy, S: SectorStore> Hba<A, S> {
         }
         let action = action_of(&self.task_in(slot));
         if self.is_aborted(&action) {
-            self.conclude(slot, aborted());
+            self.abort(slot);
             return Ok(());
         }
         self.perform(slot, &action)

@@ -5,7 +5,8 @@ ghost use Rattle.hba_memory.specs.Posting.{listed};
 ghost use Rattle.ncq_core.specs.DiskFis.{setup_bytes};
 ghost use Rattle.ahci_port.specs.PortView.{sectors_in};
 ghost use Rattle.ahci_hba.specs.Delivering.{received_put};
-ghost use Rattle.ahci_hba.specs.Failing.{concluded, ended_with, ending_fis, failed_posting, fails_at, moved_before, moved_sectors, moves_before, moves_some, own_queued, owns, queue_failed, read_failed, sectors_before, sectors_ended, sectors_failed, sectors_of, vacated};
+ghost use Rattle.hba_command.specs.Device.{after_ending};
+ghost use Rattle.ahci_hba.specs.Failing.{concluded, ended_with, ending_fis, failed_posting, failure_answered, fails_at, moved_before, moved_sectors, moves_before, moves_some, own_queued, owns, queue_failed, read_failed, sectors_before, sectors_ended, sectors_failed, sectors_of, vacated};
 ghost use Rattle.ahci_hba.specs.Queueing.{command_at, list_in};
 
 use crate::command::Command;
@@ -16,7 +17,9 @@ use crate::hba::answering::{DMA_SETUP, REGISTER, SET_BITS};
 use crate::hba::delivering::{d2h_fis, fis_ending, fits};
 use crate::last_fis::LastFis;
 use ahci_port::Port;
-use hba_command::{Action, Addressing, PrdEntry, Protocol, Span, addressed, addressing_of};
+use hba_command::{
+    Action, Addressing, Device, PrdEntry, Protocol, Span, addressed, addressing_of, after_ending,
+};
 use hba_memory::{Blocks, Posting, Scatter, SmallPut};
 use hba_regs::Slot;
 use sata_fis::{D2h, DmaSetup, Fis, Queued};
@@ -269,7 +272,37 @@ impl<A: Allocator + Copy, S: SectorStore> Hba<A, S> {
     }
 
     /// The answer to a queued command that fails.
-    pub(super) fn answer_failure(
+    fn answer_failure(
+        &mut self,
+        slot: Slot,
+        queued: &Queued,
+        list: Vec<PrdEntry, A>,
+        bytes: Vec<u8, A>,
+        sectors: u32,
+        error: u8,
+    )
+        requires sectors { sectors ≤ 65536 }
+        ensures { self.new ≡ failure_answered self.old self.old.port slot queued.now list.items bytes.items sectors error }
+    {
+        let whole = sectors == 0 || fits(512 * sectors, &list);
+        let bits = LastFis::Bits {
+            status: 0x41,
+            error,
+            sactive: 0,
+        };
+        let posting = self.failed_posting(slot, queued, list, bytes, sectors);
+        self.answer(posting, Ending::of(whole, bits));
+    }
+
+    /// The disk behind a queued command that has failed.
+    fn device_failed(&self, error: u8) -> Device
+        ensures { result ≡ after_ending false 0x41 error self.now.device }
+    {
+        after_ending(&self.device, false, 0x41, error)
+    }
+
+    /// The answer to a queued command that fails, and what the disk keeps of it.
+    pub(super) fn fail_queued(
         &mut self,
         slot: Slot,
         queued: &Queued,
@@ -281,14 +314,9 @@ impl<A: Allocator + Copy, S: SectorStore> Hba<A, S> {
         requires sectors { sectors ≤ 65536 }
         ensures { self.new ≡ queue_failed self.old self.old.port slot queued.now list.items bytes.items sectors error }
     {
-        let whole = sectors == 0 || fits(512 * sectors, &list);
-        let bits = LastFis::Bits {
-            status: 0x41,
-            error,
-            sactive: 0,
-        };
-        let posting = self.failed_posting(slot, queued, list, bytes, sectors);
-        self.answer(posting, Ending::of(whole, bits));
+        let device = self.device_failed(error);
+        self.answer_failure(slot, queued, list, bytes, sectors, error);
+        self.keep(device);
     }
 
     /// The list of the command of a slot, copied.

@@ -3,7 +3,8 @@
 ghost use Rattle.std.specs.Prelude.{◌≡◌, ◌<◌, ◌≤◌, false, true, IfErr, OnErr, OnOk};
 ghost use Rattle.std.specs.List.{list_any};
 ghost use Rattle.hba_command.specs.declared.task.Task.{Task};
-ghost use Rattle.ahci_hba.specs.Queueing.{command_at, fetching, has_alone, has_queued, distance, distance_of, is_alone, is_idle, is_listening, is_off, is_overtaken, is_ready, is_running, is_sent, may_fetch, waits};
+ghost use Rattle.ahci_hba.specs.Queueing.{comes_under_queued, command_at, fetching, has_alone, has_queued, distance, distance_of, is_alone, is_failed, is_idle, is_listening, is_off};
+ghost use Rattle.ahci_hba.specs.Queueing.{is_overtaken, is_ready, is_running, is_sent, may_fetch, waits};
 
 use crate::command::{Command, Listed};
 use crate::fault::HbaFault;
@@ -64,7 +65,7 @@ fn has_alone<A: Allocator>(slot: &Option<Listed<A>>) -> bool
 }
 
 /// Whether there is no software reset.
-fn is_off(soft: SoftReset) -> bool
+pub(super) fn is_off(soft: SoftReset) -> bool
     ensures { result ≡ is_off soft }
 {
     matches!(soft, SoftReset::Off)
@@ -148,6 +149,21 @@ impl<A: Allocator, S: SectorStore> Hba<A, S> {
         ensures { result ≡ list_any has_queued self.now.slots }
     {
         self.slots.iter().any(|slot| has_queued(slot))
+    }
+
+    /// Whether the device aborts each command but one that reads log 10h: a queued command has failed, or one that is not queued came while queued ones
+    /// were outstanding.
+    pub(super) fn is_failed(&self) -> bool
+        ensures { result ≡ is_failed self.now }
+    {
+        self.port.halted() || self.device.collision.is_some()
+    }
+
+    /// Whether the command of a slot is not queued, and comes while queued ones are outstanding.
+    pub(super) fn comes_under_queued(&self, slot: Slot) -> bool
+        ensures { result ≡ comes_under_queued self.now slot }
+    {
+        self.has_alone(slot) && (self.is_queueing() && !self.is_failed())
     }
 
     /// Whether the command of a slot is with the port.

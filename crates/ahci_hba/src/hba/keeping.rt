@@ -1,14 +1,15 @@
 //! What the disk keeps between commands (ACS-3, "SET FEATURES", "SMART" and "IDENTIFY DEVICE").
 
 ghost use Rattle.std.specs.Prelude.{◌≡◌};
-ghost use Rattle.hba_command.specs.Device.{after_srst};
-ghost use Rattle.ahci_hba.specs.Keeping.{cached, changed_by, device_after, keeping, renamed};
+ghost use Rattle.hba_command.specs.Device.{after_srst, power_cycled};
+ghost use Rattle.ahci_hba.specs.Keeping.{cached, changed_by, device_after, device_ended, keeping, renamed};
 
 use crate::hba::Hba;
 use hba_command::{
-    Device, Identity, Reply, after_srst, device_after_reply, named, reset_device, with_cache,
+    Device, Identity, Reply, after_ending, after_srst, device_after_reply, named, power_cycled,
+    reset_device, with_cache,
 };
-use hba_regs::Consequence;
+use hba_regs::{Consequence, Slot};
 use sector_store::SectorStore;
 use std::alloc::Allocator;
 
@@ -42,6 +43,21 @@ impl<A: Allocator, S: SectorStore> Hba<A, S> {
         ensures { self.new ≡ changed_by reply.now self.old }
     {
         let device = device_after_reply(reply, &self.device);
+        self.keep(device);
+    }
+
+    /// The disk behind the command of a slot, which has ended with this status and error.
+    pub(super) fn device_ended(&self, slot: Slot, status: u8, error: u8) -> Device
+        ensures { result ≡ device_ended self.now slot status error }
+    {
+        after_ending(&self.device, self.comes_under_queued(slot), status, error)
+    }
+
+    /// The disk's power comes on.
+    pub(super) fn cycle_power(&mut self)
+        ensures { self.new ≡ keeping self.old (power_cycled self.old.device) }
+    {
+        let device = power_cycled(&self.device);
         self.keep(device);
     }
 

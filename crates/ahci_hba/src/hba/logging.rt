@@ -2,6 +2,7 @@
 
 ghost use Rattle.std.specs.Prelude.{◌≡◌, ◌≤◌, ◌+◌, IfErr, IfOk, OnOk};
 ghost use Rattle.hba_command.specs.LongLogs.{long_log_pages};
+ghost use Rattle.hba_command.specs.declared.log.Log.TheVariants.{QueuedError};
 ghost use Rattle.ahci_hba.specs.Executing.{disk_page_given, log_given, long_log_in, paged, pages_given};
 ghost use Rattle.ahci_hba.specs.Queueing.{command_at, list_in};
 
@@ -10,8 +11,8 @@ use crate::hba::Hba;
 use crate::hba::delivering::done;
 use crate::hba::executing::aborted;
 use hba_command::{
-    Device, DiskPage, Log, LogPages, LongLog, Protocol, allows_page, long_log_page,
-    not_queued_page, ready_page,
+    Device, DiskPage, Log, LogPages, LongLog, Protocol, after_error_log, after_page, allows_page,
+    long_log_page, ready_page, unfailed_page,
 };
 use hba_memory::Blocks;
 use hba_regs::Slot;
@@ -95,6 +96,18 @@ impl<A: Allocator + Copy, S: SectorStore> Hba<A, S> {
         Ok(())
     }
 
+    /// Log 10h goes to the driver, with no queued command failed: after it the device aborts no command for a collision.
+    fn read_error_log(&mut self, slot: Slot, protocol: Protocol) -> Result<(), HbaFault>
+        ensures ok { OnOk result (self.new ≡ log_given self.old slot protocol (list_in (command_at self.old slot)) QueuedError) }
+        ensures err { IfErr result (λ e. (e ≡ HbaFault.OutOfMemory) × (self.new ≡ self.old)) }
+    {
+        let page = unfailed_page(self.device.collision);
+        let device = after_error_log(&self.device);
+        self.read_page(slot, protocol, &page)?;
+        self.keep(device);
+        Ok(())
+    }
+
     /// READ LOG EXT and READ LOG DMA EXT of a log that the disk hasn't ready, with no queued command failed.
     pub(super) fn read_log(
         &mut self,
@@ -106,7 +119,7 @@ impl<A: Allocator + Copy, S: SectorStore> Hba<A, S> {
         ensures err { IfErr result (λ e. (e ≡ HbaFault.OutOfMemory) × (self.new ≡ self.old)) }
     {
         match log {
-            Log::QueuedError => self.read_page(slot, protocol, &not_queued_page()),
+            Log::QueuedError => self.read_error_log(slot, protocol),
             Log::Pages(log, pages) => self.read_long_log(slot, *log, protocol, pages),
         }
     }
@@ -126,6 +139,9 @@ impl<A: Allocator + Copy, S: SectorStore> Hba<A, S> {
             return Ok(());
         }
         let bytes = ready_page(&self.device, page);
-        self.read_page(slot, protocol, &bytes)
+        let device = after_page(&self.device, page);
+        self.read_page(slot, protocol, &bytes)?;
+        self.keep(device);
+        Ok(())
     }
 }

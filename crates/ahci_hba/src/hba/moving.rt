@@ -35,8 +35,8 @@ fn end_by(registers: &mut HbaRegs, fis: LastFis)
             sactive,
         } => registers.receive_bits(status, error, true, sactive),
         LastFis::Pio { slot } => {
-            registers.receive_pio(0x48, 0); // DRDY and DRQ
-            registers.end_pio(0x40, true, slot);
+            registers.receive_pio(0x48); // DRDY and DRQ
+            registers.end_pio(0x40, 0x00, true, slot);
         }
         LastFis::Signature(kind) => {
             if registers.signature_moves() {
@@ -72,8 +72,8 @@ pub(super) fn end_block<A: Allocator>(registers: &mut HbaRegs, transfer: &Transf
     ensures { registers.new ≡ block_ended registers.old transfer.now }
 {
     overflow(registers, transfer.is_short());
-    registers.receive_pio(0x48, 0); // DRDY and DRQ
-    registers.end_pio(0xC0, transfer.has_interrupt(), transfer.slot()); // BSY and DRDY
+    registers.receive_pio(0x48); // DRDY and DRQ
+    registers.end_pio(0xC0, 0x00, transfer.has_interrupt(), transfer.slot()); // BSY and DRDY
 }
 
 impl<A: Allocator, S: SectorStore> Hba<A, S> {

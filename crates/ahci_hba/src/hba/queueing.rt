@@ -183,7 +183,7 @@ impl<A: Allocator + Copy, S: SectorStore> Hba<A, S> {
         if !self.fail_request(slot, error, fails_at(&queued, lba)) {
             return Err(HbaFault::NotReady);
         }
-        self.answer_failure(slot, &queued, list, bytes, sectors, error);
+        self.fail_queued(slot, &queued, list, bytes, sectors, error);
         Ok(())
     }
 

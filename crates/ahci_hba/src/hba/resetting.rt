@@ -3,10 +3,11 @@
 ghost use Rattle.std.specs.Prelude.{◌≡◌, ◌<◌, ◌^◌, true, false, IfErr, OnErr, OnOk, IfOk};
 ghost use Rattle.ahci_hba.specs.Dropping.{handed_out, is_reset};
 ghost use Rattle.hba_command.specs.Action.{action_of};
+ghost use Rattle.hba_command.specs.Device.{after_signature};
 ghost use Rattle.ahci_hba.specs.Failing.{ended_at, moves_before, refused_at};
 ghost use Rattle.ahci_hba.specs.Queueing.{command_at, task_in};
 ghost use Rattle.ahci_hba.specs.Stepping.{fault_if, may_control, may_refuse};
-ghost use Rattle.ahci_hba.specs.Resetting.{IsControlled, control_in, control_journal, control_of, held, may_sign, released, sent_by, signature, signing, signing_for};
+ghost use Rattle.ahci_hba.specs.Resetting.{IsControlled, comes_by_comreset, control_in, control_journal, control_of, held, is_due, may_sign, released, sent_by, signature, signing, signing_for};
 ghost use Rattle.hba_regs.specs.declared.consequence.Consequence.TheVariants.{LinkReset};
 
 use crate::command::Command;
@@ -14,9 +15,10 @@ use crate::ending::Ending;
 use crate::fault::HbaFault;
 use crate::hba::Hba;
 use crate::hba::answering::REGISTER;
+use crate::hba::fetching::is_off;
 use crate::last_fis::LastFis;
 use ahci_port::Journal;
-use hba_command::{Action, action_of};
+use hba_command::{Action, Device, action_of, after_signature};
 use hba_regs::{Consequence, DeviceKind, Signature, Slot, SoftReset};
 use sata_fis::{D2h, Fis};
 use sector_store::SectorStore;
@@ -47,6 +49,13 @@ fn sent_by(signature: Signature, kind: DeviceKind) -> DeviceKind
     }
 }
 
+/// Whether a signature is sent now.
+fn is_due(signature: Signature) -> bool
+    ensures { result ≡ is_due signature }
+{
+    matches!(signature, Signature::Due)
+}
+
 /// What the device control register says of SRST; nothing of a command.
 fn control_of(action: &Action) -> Option<bool>
     ensures { result ≡ control_of action.now }
@@ -63,6 +72,27 @@ impl<A: Allocator, S: SectorStore> Hba<A, S> {
         ensures { result ≡ may_sign self.now }
     {
         self.is_idle() && self.registers.signature_moves()
+    }
+
+    /// Whether the signature is sent now, because of a COMRESET.
+    fn comes_by_comreset(&self) -> bool
+        ensures { result ≡ comes_by_comreset self.now.registers.port }
+    {
+        is_due(self.registers.signature()) && is_off(self.registers.soft_reset())
+    }
+
+    /// The disk once its signature is sent.
+    fn device_signed(&self) -> Device
+        ensures { result ≡ after_signature (comes_by_comreset self.now.registers.port) self.now.device }
+    {
+        after_signature(&self.device, self.comes_by_comreset())
+    }
+
+    /// The device whose signature is sent.
+    fn sent_kind(&self, kind: DeviceKind) -> DeviceKind
+        ensures { result ≡ sent_by self.now.registers.port.signature kind }
+    {
+        sent_by(self.registers.signature(), kind)
     }
 
     /// What the device control register of a slot's control FIS says of SRST; nothing if the slot has none that was read.
@@ -134,9 +164,18 @@ impl<A: Allocator + Copy, S: SectorStore> Hba<A, S> {
         if !self.may_sign() {
             return Err(HbaFault::NotReady);
         }
-        let sent = sent_by(self.registers.signature(), kind);
-        self.send_signature(sent);
+        self.send_counted(kind);
         Ok(())
+    }
+
+    /// The signature of a device is sent, or posted as it was taken before; one because of a COMRESET is counted.
+    fn send_counted(&mut self, kind: DeviceKind)
+        ensures { self.new ≡ signing self.old kind }
+    {
+        let device = self.device_signed();
+        let sent = self.sent_kind(kind);
+        self.send_signature(sent);
+        self.keep(device);
     }
 
     /// The FIS with the signature of a device is written, and taken.
@@ -187,7 +226,8 @@ impl<A: Allocator + Copy, S: SectorStore> Hba<A, S> {
     }
 
     /// The device fails the command of a slot that is read and not queued, with an error byte at an LBA below 2^48: a D2H Register
-    /// FIS is written, and then the port halts. No sector has changed. A read has moved its sectors before the LBA; a write names its first one.
+    /// FIS is written, and then the port halts. No sector has changed. A read has moved its sectors before the LBA; a write names its first one. If queued
+    /// commands are outstanding the device aborts them too, as `execute` does.
     ///
     /// # Errors
     /// `NotReady` exactly if `may_refuse` is false; else `OutOfMemory` if a read has moved sectors and an allocation failed, and it can be tried again.
@@ -219,8 +259,10 @@ impl<A: Allocator + Copy, S: SectorStore> Hba<A, S> {
             return Err(HbaFault::NotReady);
         }
         let action = action_of(&self.task_in(slot));
+        let device = self.device_ended(slot, status, error);
         self.end_with(slot, &action, status, error, lba)?;
         self.wake_for(&action);
+        self.keep(device);
         Ok(())
     }
 }

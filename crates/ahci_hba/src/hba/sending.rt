@@ -192,11 +192,13 @@ impl<A: Allocator, S: SectorStore> Hba<A, S> {
         }
     }
 
-    /// Whether the command of a slot goes to the port now: `goes_to_port` holds, the port takes it, and the device may move.
+    /// Whether the command of a slot goes to the port now: `goes_to_port` holds, the port takes it, and the device may move and aborts nothing for a collision.
     pub fn may_send(&self, slot: Slot) -> bool
         ensures { result ≡ may_send self.now slot }
     {
-        self.is_ready() && self.goes_to_port(slot) && self.submit_fault(slot).is_none()
+        self.is_ready()
+            && (self.device.collision.is_none() && self.goes_to_port(slot))
+            && self.submit_fault(slot).is_none()
     }
 }
 

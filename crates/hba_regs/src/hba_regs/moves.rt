@@ -46,7 +46,7 @@ impl HbaRegs {
     }
 
     /// Takes a D2H Register FIS that no command asks for, with I, status 50h and error 00h (section 5.3, RegFIS:Entry): DHRS is set, and PxCI stays, since no
-    /// command is being issued.
+    /// command is being issued. While ST is 0 PxTFD alone is set (section 5.3.2, P:RegFisUpdate).
     pub fn receive_unsolicited(&mut self)
         ensures { self.new ≡ moved self.old (reg_fis_unsolicited self.old.port) }
     {
@@ -63,19 +63,20 @@ impl HbaRegs {
         self.pending = self.pending || self.port.is_pending();
     }
 
-    /// Takes a PIO Setup FIS, before its data: its status and error.
-    pub fn receive_pio(&mut self, status: u8, error: u8)
-        ensures { self.new ≡ moved self.old (pio_entry status error self.old.port) }
+    /// Takes a PIO Setup FIS, before its data: its status (section 5.3, PIO:Entry). With ERR in it the data move as well.
+    pub fn receive_pio(&mut self, status: u8)
+        ensures { self.new ≡ moved self.old (pio_entry status self.old.port) }
     {
-        self.port.receive_pio(status, error);
+        self.port.receive_pio(status);
         self.pending = self.pending || self.port.is_pending();
     }
 
-    /// Ends a PIO Setup FIS's data, for the command of a slot: the FIS's E_Status and its I bit.
-    pub fn end_pio(&mut self, e_status: u8, i: bool, slot: Slot)
-        ensures { self.new ≡ moved self.old (pio_update e_status i slot self.old.port) }
+    /// Ends a PIO Setup FIS's data, for the command of a slot: the FIS's E_Status, its error and its I bit, which the caller has kept (pPioESts, pPioErr and
+    /// pPioIbit). An E_Status with ERR halts the port.
+    pub fn end_pio(&mut self, e_status: u8, error: u8, i: bool, slot: Slot)
+        ensures { self.new ≡ moved self.old (pio_update e_status error i slot self.old.port) }
     {
-        self.port.end_pio(e_status, i, slot);
+        self.port.end_pio(e_status, error, i, slot);
         self.pending = self.pending || self.port.is_pending();
     }
 

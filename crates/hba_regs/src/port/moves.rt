@@ -57,13 +57,15 @@ impl Port {
         }
     }
 
-    /// RegFIS:Entry, of a D2H Register FIS that no command asks for.
+    /// RegFIS:Entry, of a D2H Register FIS that no command asks for; or P:RegFisUpdate, while ST is 0.
     pub fn receive_unsolicited(&mut self)
         ensures { self.new ≡ reg_fis_unsolicited self.old }
     {
         self.status = 0x50;
         self.error = 0x00;
-        self.raise(DHRS, true);
+        if self.started {
+            self.raise(DHRS, true);
+        }
     }
 
     /// SDB:Entry, of a Set Device Bits FIS.
@@ -80,21 +82,18 @@ impl Port {
     }
 
     /// PIO:Entry, of a PIO Setup FIS.
-    pub fn receive_pio(&mut self, status: u8, error: u8)
-        ensures { self.new ≡ pio_entry status error self.old }
+    pub fn receive_pio(&mut self, status: u8)
+        ensures { self.new ≡ pio_entry status self.old }
     {
         self.status = status;
-        self.error = error;
-        if has_error(status) {
-            self.fail_taskfile();
-        }
     }
 
     /// PIO:Update, once its data have moved.
-    pub fn end_pio(&mut self, e_status: u8, i: bool, slot: Slot)
-        ensures { self.new ≡ pio_update e_status i slot self.old }
+    pub fn end_pio(&mut self, e_status: u8, error: u8, i: bool, slot: Slot)
+        ensures { self.new ≡ pio_update e_status error i slot self.old }
     {
         self.status = e_status;
+        self.error = error;
         self.raise(PSS, i);
         if has_error(e_status) {
             self.fail_taskfile();

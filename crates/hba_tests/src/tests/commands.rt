@@ -191,20 +191,6 @@ const QUEUED_BEYOND: &[Row] = &[
     HasAll(DATA, 1024, 0xAA),
 ];
 
-/// A command that is not queued while a queued one is outstanding is aborted. The other one is not ended.
-const MIXED: &[Row] = &[
-    Lays(1, ONE, OTHER, READ, SECTOR),
-    Writes(PX_SACT, 2),
-    Writes(PX_CI, 2),
-    Takes(1),
-    Lays(0, ONE, TABLE, READ_DMA, SECTOR),
-    Writes(PX_CI, 1),
-    Does(0),
-    Row::Answered(0x41, 4, 0, 0),
-    Reads(PX_SACT, 2),
-    Reads(PX_CI, 1),
-];
-
 /// The disk fails a read that is not queued, which it has read alone.
 const REFUSED: &[Row] = &[
     Fills(DATA, 512, 0xAA),
@@ -364,8 +350,6 @@ static FAILING: Story = Story {
         READ_PAST,
         RESTART,
         READ_PAST_BY_PIO,
-        RESTART,
-        MIXED,
         RESTART,
         REFUSED,
         RESTART,

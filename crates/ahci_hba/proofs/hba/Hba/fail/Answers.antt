@@ -13,6 +13,6 @@ returns-clause-ready g c =
 
 pub returns-clause-ok : goal.returns-clause-ok
 returns-clause-ok g c =
-    fails c.args.slot c.args.error c.args.lba c.fails_at.result c.in-Some.queued c.args.self.now c.fail_request.new.self c.answer_failure.new.self _ _ _
+    fails c.args.slot c.args.error c.args.lba c.fails_at.result c.in-Some.queued c.args.self.now c.fail_request.new.self c.fail_queued.new.self _ _ _
     (ap (λ a. own_queued a c.args.lba) (sym (c.action_of.ensures ∙ ap action_of c.task_in.ensures)) ∙ sym c.own_queued.ensures ∙ c.in-Some.is) c.fails_at.ensures
-    (c.fail_request.ensures.failed c.if-not-fail_request.false) c.in_ok-list.ensures c.in_ok-bytes.ensures.count c.in_ok-bytes.ensures.bytes c.answer_failure.ensures
+    (c.fail_request.ensures.failed c.if-not-fail_request.false) c.in_ok-list.ensures c.in_ok-bytes.ensures.count c.in_ok-bytes.ensures.bytes c.fail_queued.ensures
