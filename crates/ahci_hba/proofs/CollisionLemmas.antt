@@ -15,7 +15,7 @@ use Rattle.ahci_hba.specs.Failing.{concluded, vacated}
 use Rattle.ahci_hba.specs.HbaView.{HbaView, Idle, Posting}
 use Rattle.ahci_hba.specs.Keeping.{device_ended, keeping}
 use Rattle.ahci_hba.specs.Moving.{answering, ended, ending_of}
-use Rattle.ahci_hba.specs.Queueing.{command_at, goes_to_port, has_alone, has_queued, has_tag, is_failed, is_ready, only_after}
+use Rattle.ahci_hba.specs.Queueing.{command_at, goes_to_port, has_alone, has_no_blocks, has_queued, has_tag, is_failed, is_ready, only_after}
 use Rattle.ahci_hba.specs.Stepping.{is_answered, may_send, work_at}
 use Rattle.ahci_hba.specs.declared.ending.Ending.{Ending}
 
@@ -45,7 +45,7 @@ aborts_queue old new slot alone queued made =
     ∙ is_pending (has_alone (command_at old slot)) (list_any has_queued old.slots) (halted old.port.past) old.device.collision alone queued
 
 pub aborts_all : (h : HbaView) (a : Action) → list_any has_queued h.slots ≡ true → is_aborted h a ≡ true
-aborts_all h a e = ap (λ q. q || (is_failed h && not (reads_error_log a))) e
+aborts_all h a e = ap (λ q. q || (is_failed h && not (reads_error_log a)) || has_no_blocks h a) e
 
 -- ---- while its error is pending
 
@@ -67,11 +67,12 @@ answers_queued h q e = by (halted h.port.past) (is_some h.device.collision) (not
     by false false tagless e = cc
 
 pub aborts_others : (h : HbaView) (a : Action) → is_some h.device.collision ≡ true → reads_error_log a ≡ false → is_aborted h a ≡ true
-aborts_others h a e other = by (list_any has_queued h.slots) (halted h.port.past) (is_some h.device.collision) (reads_error_log a) e other
+aborts_others h a e other =
+    by (list_any has_queued h.slots) (halted h.port.past) (is_some h.device.collision) (reads_error_log a) (has_no_blocks h a) e other
   where
-    by : (queued halts pending reads : Bool) → pending ≡ true → reads ≡ false → (queued || ((halts || pending) && not reads)) ≡ true
-    by true halts pending reads e other = refl
-    by false true pending false e other = refl
-    by false false true false e other = refl
-    by false halts false reads e other = cc
-    by false halts pending true e other = cc
+    by : (queued halts pending reads lacks : Bool) → pending ≡ true → reads ≡ false → (queued || ((halts || pending) && not reads) || lacks) ≡ true
+    by true halts pending reads lacks e other = refl
+    by false true pending false lacks e other = refl
+    by false false true false lacks e other = refl
+    by false halts false reads lacks e other = cc
+    by false halts pending true lacks e other = cc

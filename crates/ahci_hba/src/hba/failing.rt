@@ -1,6 +1,6 @@
 //! How the device fails a command that moves sectors (ACS-3, "LBA of first unrecoverable error").
 
-ghost use Rattle.std.specs.Prelude.{◌≡◌, ◌≤◌, ◌<◌, ◌-◌, ◌^◌, true, IfErr, IfOk, OnErr, OnOk};
+ghost use Rattle.std.specs.Prelude.{false, ◌≡◌, ◌≤◌, ◌<◌, ◌-◌, ◌^◌, true, IfErr, IfOk, OnErr, OnOk};
 ghost use Rattle.hba_memory.specs.Posting.{listed};
 ghost use Rattle.ncq_core.specs.DiskFis.{setup_bytes};
 ghost use Rattle.ahci_port.specs.PortView.{sectors_in};
