@@ -5,6 +5,7 @@ from __future__ import annotations
 
 import functools
 import json
+import math
 import os
 import re
 from typing import Any, Dict, List, NamedTuple, Sequence, Tuple
@@ -40,6 +41,11 @@ class Event(NamedTuple):
     wrong: int = 0          # so many reads give the user other data than the disk's: Linux takes as done what isn't
     is_alone: bool = False  # without a queue: `end` is about commands that aren't queued
     kernels: Sequence[str] = ("kernel",)  # those that are tried
+    options: Sequence[str] = ()  # of the program
+    pick: str = "random"         # its option
+    words: str = ""              # of the kernel's command line
+    told: Sequence[Tuple[str, str]] = ()  # what else the guest has to tell
+    instead: Sequence[Tuple[str, str]] = ()  # parts of a shipped script, and what stands in their place here; "" is its end, `5*s` five seconds of an idle machine
 
 
 def at(event: str, place: str = "on 1000th any") -> str:
@@ -99,12 +105,17 @@ EVENTS: Sequence[Event] = (
 QUICK = ("fail 40, a read", "unplug, plug", "fatal_crc_error and the four like it")  # those of `make check`
 
 
-def text_of(script: str) -> str:
-    """A script, or one that is shipped."""
-    if not script.endswith(".events"):
-        return f"{script}\n"
-    with open(os.path.join(SHIPPED, script), encoding="utf-8") as file:
-        return file.read()
+def text_of(event: Event) -> str:
+    """An event's script, or one that is shipped."""
+    if not event.script.endswith(".events"):
+        return f"{event.script}\n"
+    with open(os.path.join(SHIPPED, event.script), encoding="utf-8") as file:
+        text = file.read()
+    for part, other in event.instead:
+        expect(part in text, f"{event.script} has no {part}")
+        other = re.sub(r"(\d+)\*s", lambda it: f"{math.ceil(int(it[1]) * pace.times(True))}s", other)
+        text = text.replace(part, other) if part else text + other + "\n"
+    return text
 
 
 # what differs from run to run in Linux's lines
@@ -129,9 +140,11 @@ def outcome(room: str, folder: str, event: Event) -> Dict[str, Any]:
     """A run of guests/survive.sh while an event's script goes on: what came of the requests, what Linux wrote, and what the judge reports."""
     path, found = os.path.join(room, "it.events"), os.path.join(room, "judged.json")
     with open(path, "w", encoding="utf-8") as file:
-        file.write(text_of(event.script))
+        file.write(text_of(event))
     image = booting.numbered(room)
-    guest = Guest(room, ["--image", image, "--script", path, "--json", found, "--delay", "2000", "--pick", "random", *(ALONE if event.is_alone else [])], linux(room, "survive", folder=folder), log=False)
+    options = ["--image", image, "--script", path, "--json", found, "--delay", "2000", "--pick", event.pick, *(ALONE if event.is_alone else []), *event.options]
+    qboot = images.file_of("/usr/share/qemu/qboot.rom", "qemu-system-data")  # no driver for disks: Linux has the controller for itself
+    guest = Guest(room, options, [*linux(room, "survive", folder=folder, more=event.words), "-bios", qboot], log=False)
     hangs = not pace.ended(guest.process, SECONDS)
     if hangs:
         guest.kill()
@@ -169,6 +182,7 @@ def look(event: Event, folder: str, came: Dict[str, Any]) -> str:
     expect(came["same"], f"{where}: the image is not the disk that Linux read last")
     errors, again = class_of(told["mixed"], event.wrong), class_of(told["again"])
     expect((errors, again) == (event.errors, event.again), f"{where}: {errors} of the requests fail, and {again} later, not {event.errors} and {event.again}: {told['mixed']}; {told['again']}; {came['says'][:12]}")
+    expect(all(told.get(name) == text for name, text in event.told), f"{where}: the guest tells {told}, and not {event.told}")
     missing = [it for it in event.says if not any(re.search(it, line) for line in came["says"])]
     expect(not missing, f"{where}: Linux does not write {missing}, but {came['says'][:12]}")
     expect(not event.is_quiet or not came["says"], f"{where}: Linux writes {came['says'][:6]}")

@@ -1,0 +1,142 @@
+"""The section "Recovery" of docs/DRIVERS.md, from the stored runs of recoveries.py."""
+from __future__ import annotations
+
+import re
+from typing import Any, Dict, List, Sequence
+
+import recoveries
+import shipped
+import surviving
+
+MOST_LINES = 6  # of what a driver writes
+SEEN, LATE, MISSING, CUT = "seen", "out of order", "missing", "not before the next event"
+FATES = ("answered", "again", "failed", "lost", "twice", "other", "carried")
+Came = Dict[str, Any]  # what came of a run
+Reports = List[Dict[str, Any]]
+
+
+def steps_of(reports: Reports) -> str:
+    """Which steps of some reports of one event are missing or out of order, and how often if not always."""
+    total, texts = sum(it["times"] for it in reports), []
+    for state in (MISSING, LATE, CUT):
+        counts: Dict[str, int] = {}
+        for it in reports:
+            for name, states in it["steps"].items():
+                counts[name] = counts.get(name, 0) + states.get(state, 0)
+        names = [name if times == total else f"{name} ({times} of {total})" for name, times in counts.items() if times]
+        texts += [f"{state}: {', '.join(names)}"] if names else []
+    return "; ".join(texts) or ("all in order" if any(it["steps"] for it in reports) else "-")
+
+
+def also_of(reports: Reports) -> str:
+    return ", ".join(dict.fromkeys(name for it in reports for name in it["also"])) or "-"
+
+
+def fates_of(reports: Reports) -> str:
+    """What became of the requests that were outstanding."""
+    counts: Dict[str, int] = {}
+    for it in reports:
+        for name, times in it["requests"].items():
+            counts[name] = counts.get(name, 0) + times
+    return ", ".join(f"{counts[name]} {name}" for name in FATES if counts.get(name)) or "-"
+
+
+def failed_of(came: Came) -> str:
+    """How many requests failed."""
+    if came["hangs"]:
+        return "it hangs"
+    found = re.match(r"requests (\d+) .* errors (\d+) wrong (\d+)", came["mixed"])
+    wrong = f"; {found[3]} read wrong" if found and found[3] != "0" else ""
+    return str(found[2] if found else came["mixed"]) + wrong + ("; the disk is gone" if came["again"] == "no disk" else "")
+
+
+# lines that say no more than those beside them
+PLAIN = re.compile(r"ata1\.00: (irq_stat 0x\S+|cmd .*|status: .*|device reported .*|failed command: .*)|ata1: EH complete|sd .*(CDB|Result): .*")
+
+
+def said_of(came: Came) -> str:
+    """The first lines that a kernel has written, without those that say no more."""
+    lines = [line for line in came["says"] if not PLAIN.fullmatch(line)]
+    return ("; ".join(f"`{line}`" for line in lines[:MOST_LINES]) or "nothing") + ("; .." if len(lines) > MOST_LINES else "")
+
+
+def names_of(all_of: Dict[str, Came], events: Sequence[surviving.Event]) -> List[str]:
+    """The events, in their order, that some kernel was run under."""
+    return list(dict.fromkeys(it.name for it in events if any(it.name in found["events"] for found in all_of.values())))
+
+
+def failures(all_of: Dict[str, Came], name: str) -> List[str]:
+    return [failed_of(found["events"][name]) if name in found["events"] else "" for found in all_of.values()]
+
+
+def runs_table(all_of: Dict[str, Came]) -> List[str]:
+    """What came of the requests under each event, and what the first kernel writes."""
+    first = next(iter(all_of.values()))
+    lines = ["| Script | " + " | ".join(f"Fail on {found['version']}" for found in all_of.values()) + f" | First lines of {first['version']} |", "|---" * (2 + len(all_of)) + "|"]
+    for name in names_of(all_of, surviving.EVENTS):
+        lines.append(f"| `{name}` | " + " | ".join(failures(all_of, name)) + f" | {said_of(first['events'][name]) if name in first['events'] else ''} |")
+    return lines
+
+
+def by_event(came: Came) -> Dict[str, Reports]:
+    """The reports of a run, by event and section."""
+    found: Dict[str, Reports] = {}
+    for it in came["recoveries"]:
+        found.setdefault(it["event"] + (f", {it['section']}" if it["section"] else ""), []).append(it)
+    return found
+
+
+def did_of(came: Came) -> List[str]:
+    """The cells of a script's row: what a kernel did after its events, what besides, and what became of the commands that were outstanding."""
+    found = by_event(came)
+    steps = [f"{name} ({sum(it['times'] for it in reports)}): {steps_of(reports)}" for name, reports in found.items() if steps_of(reports) != "-"]
+    return ["; ".join(steps) or "-", also_of(came["recoveries"]), fates_of(came["recoveries"])]
+
+
+def scripts_table(all_of: Dict[str, Came]) -> List[str]:
+    """What came of the requests under each script that is shipped, and what the first kernel did."""
+    first = next(iter(all_of.values()))
+    heads = ["Script", *(f"Fail on {found['version']}" for found in all_of.values()), "Events with steps of the standard (times): what the first kernel did", "Besides", "Commands that were outstanding"]
+    lines = ["| " + " | ".join([*heads, f"First lines of {first['version']}"]) + " |", "|---" * (1 + len(heads)) + "|"]
+    for name in names_of(all_of, shipped.EVENTS):
+        did = [*did_of(first["events"][name]), said_of(first["events"][name])] if name in first["events"] else [""] * 4
+        lines.append("| " + " | ".join([f"[`{name}`](../host/events/{name})", *failures(all_of, name), *did]) + " |")
+    return lines
+
+
+def reports_table(found: Came) -> List[str]:
+    """What a kernel does about each event, by the reports of all its runs."""
+    all_of: Dict[str, Reports] = {}
+    for came in found["events"].values():
+        for name, reports in by_event(came).items():
+            all_of.setdefault(name, []).extend(reports)
+    lines = ["| Event, section | Times | Steps of the standard | Besides | Commands that were outstanding |", "|---" * 5 + "|"]
+    for name, reports in sorted(all_of.items()):
+        lines.append(f"| {name} | {sum(it['times'] for it in reports)} | {steps_of(reports)} | {also_of(reports)} | {fates_of(reports)} |")
+    return lines
+
+
+def broken_of(found: Came) -> str:
+    """The rules that a kernel breaks, by run."""
+    return "; ".join(f"`{name}`: {', '.join(f'`{it}`' for it in came['broken'])}" for name, came in found["events"].items() if came["broken"]) or "none"
+
+
+def section() -> List[str]:
+    """The section of the page."""
+    all_of = {folder: found for folder, found in ((it, recoveries.stored(it)) for it in surviving.KERNELS) if found["events"]}
+    if not all_of:
+        return []
+    lines = ["", "## Recovery", "",
+             "Linux makes 2,500 requests in a queue of 32 commands while a [script](../host/README.md#scripts-of-events) of [surviving.py](../hba/checks/surviving.py) goes on; each read is compared, and at the end each block is",
+             "read once more. It has the controller for itself, on qboot. No write that was answered was lost. \"Read wrong\" is a read that Linux took as done and whose data are not the disk's: it looks neither at DF",
+             "without ERR nor at PRDBC. No other data were wrong. `hba/drivers --recovery` makes the runs.", "", *runs_table(all_of)]
+    scripts = scripts_table(all_of)
+    if len(scripts) > 2:
+        lines += ["", "### The scripts that are shipped", "",
+                  "The same under each script of [host/events](../host/events/README.md). [shipped.py](../hba/checks/shipped.py) has the numbers of requests, and what of a script is another one here: losses of power come with the 1,000th",
+                  "command, a disk is plugged in after Linux has looked for one, and a second COMRESET is brought about.", "", *scripts]
+    for found in all_of.values():
+        lines += ["", f"### What {found['version']} does about each event", "",
+                  "By the [reports of recovery](../hba/README.md#reports-of-recovery): \"all in order\" are the steps of the section of AHCI 1.3.1, \"-\" is an event that asks for none. "
+                  f"[Rules](#rules-that-are-broken) that it breaks meanwhile: {broken_of(found)}.", "", *reports_table(found)]
+    return lines
