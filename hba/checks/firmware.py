@@ -3,6 +3,7 @@ written down here, and docs/DRIVERS.md has it from the stored runs."""
 from __future__ import annotations
 
 import functools
+import gzip
 import json
 import os
 import re
@@ -73,7 +74,7 @@ def seabios_looked(room: str, image: str) -> Tuple[str, List[str]]:
 def grub_looked(room: str, image: str) -> Tuple[str, List[str]]:
     """What GRUB has printed."""
     serial = serial_of(os.path.join(room, "serial"))
-    said = [it.strip() for it in re.findall(r"^(?:.*(?:error|fail).*|BdsDxe: (?!loading|starting).*)$", serial, re.MULTILINE)]
+    said = [it.strip() for it in re.findall(r"(?:error|failed|BdsDxe: (?!loading|starting|Press)).*$", serial, re.MULTILINE)]
     if "CHECK root" not in serial:
         return NO_BOOT, said
     sums = re.findall(r"^([0-9a-f]{64}) ", serial, re.MULTILINE)
@@ -94,12 +95,12 @@ MACHINES: Dict[str, Machine] = {
     "SeaBIOS": Machine("a boot sector reads 1 and 64 sectors, writes 2 and reads them again, each by INT 13h and twice if it fails",
                        lambda room: images.sector_image(room, TRIES)[0], debugged, r"^(end$|No bootable device)", seabios_looked),
     "GRUB": Machine("`nativedisk ahci`, the SHA-256 of 4 MiB twice, a file, `save_env`", grub_image, debugged, r"^(CHECK end$|No bootable device)", grub_looked),
-    "EDK2": Machine("GRUB does the same by the firmware's driver", grub_image, uefi, r"^CHECK end$", grub_looked),
+    "EDK2": Machine("GRUB does the same by the firmware's driver", grub_image, uefi, r"^CHECK end$|BdsDxe: No bootable option", grub_looked),
 }
 
 
 class Row(NamedTuple):
-    """An event, as a script in which {read} and {write} are a read and a write of the guest, and {begin} is the first access to the port; and what each firmware does about it."""
+    """An event, as a script in which {read} and {write} are a read and a write of the guest; and what each firmware does about it."""
     event: str
     script: str
     did: Sequence[str]  # of SeaBIOS, GRUB and EDK2
@@ -110,7 +111,7 @@ ROWS: Sequence[Row] = (
     # commands
     Row("a read fails once", "{read} do fail 40", (AGAIN, AGAIN, RIGHT)),
     Row("the first sector can't be read once", "on first read sector 0 do fail 40", (NO_BOOT, NO_BOOT, RIGHT)),
-    Row("a write fails", "{write} do fail 10", (AGAIN, AGAIN, RIGHT)),
+    Row("a write fails", "{write} do fail 10", (AGAIN, SAID, SAID)),
     Row("IDENTIFY DEVICE is aborted", "on first IDENTIFY DEVICE do fail 04", (NO_BOOT, NO_BOOT, RIGHT)),
     Row("the disk stays busy after IDENTIFY DEVICE", "on first IDENTIFY DEVICE do end D0", (NO_BOOT, NO_BOOT, RIGHT)),
     Row("a read takes five seconds", "{read} do slow 5s", (RIGHT, RIGHT, RIGHT)),
@@ -129,16 +130,23 @@ ROWS: Sequence[Row] = (
     Row("an interrupt is lost", "{read} do lose_interrupt", (RIGHT, RIGHT, RIGHT)),
     # the disk and the link
     Row("no disk", "on time 1us do unplug", (NO_BOOT, NO_BOOT, NO_BOOT)),
-    Row("the signature comes two seconds late", "{begin} do hold_signature 2s", (RIGHT, RIGHT, RIGHT)),
-    Row("the signature does not come", "{begin} do lose_signature", (NO_BOOT, NO_BOOT, NO_BOOT)),
-    Row("the signature of an ATAPI device", "{begin} do packet_signature", (RIGHT, RIGHT, NO_BOOT)),
+    Row("each signature comes two seconds late", "on time 1ms do hold_signature 2s repeat ever", (RIGHT, RIGHT, RIGHT)),
+    Row("no signature comes", "on time 1ms do lose_signature repeat ever", (NO_BOOT, NO_BOOT, NO_BOOT)),
+    Row("each signature is that of an ATAPI device", "on time 1ms do packet_signature repeat ever", (RIGHT, RIGHT, NO_BOOT)),
     Row("the disk is pulled out", "{read} do unplug", (GIVEN_UP, GIVEN_UP, GIVEN_UP)),
     Row("the disk is pulled out, and is back a second later", "{read} do unplug then wait 1s then plug", (GIVEN_UP, AGAIN, RIGHT)),
     Row("the link is lost, and back 100 milliseconds later", "{read} do lose_link then wait 100ms then find_link", (GIVEN_UP, AGAIN, RIGHT)),
     Row("the controller loses its registers", "{read} do power_on", (GIVEN_UP, GIVEN_UP, GIVEN_UP)),
     Row("CR, FR, CLO and HR are slow", "on time 1us do slow_hr 500ms then slow_cr 100ms then slow_fr 100ms then slow_clo 100ms", (RIGHT, RIGHT, RIGHT)),
 )
-TRIALS = [Trial(name, row.event, row.script.format(read=f"on {PLACES[name]}", write="on first write", begin="on first write PxCLB"), did) for row in ROWS for name, did in zip(MACHINES, row.did)]
+
+
+def script_text(row: Row, name: str) -> str:
+    """An event's script for a firmware."""
+    return row.script.format(read=f"on {PLACES[name]}", write="on first write")
+
+
+TRIALS = [Trial(name, row.event, script_text(row, name), did) for row in ROWS for name, did in zip(MACHINES, row.did)]
 
 
 def script_of(room: str, script: str) -> str:
@@ -201,15 +209,39 @@ def check_of(trial: Trial) -> Check:
 # ---- stored runs ----
 
 STORED = os.path.join(HERE, "runs", "firmware.json")
+PACKAGES = {"SeaBIOS": "seabios", "GRUB": "grub-pc-bin", "EDK2": "ovmf"}
 
 
 def stored() -> Dict[str, Dict[str, Any]]:
-    """What is stored of each firmware under each event."""
+    """What is stored: the version of each firmware, and what came of it under each event."""
     if not os.path.exists(STORED):
-        return {}
+        return {"versions": {}, "events": {}}
     with open(STORED, encoding="utf-8") as file:
         found: Dict[str, Dict[str, Any]] = json.load(file)
     return found
+
+
+def version_of(name: str) -> str:
+    """A firmware with the version of its package, which came with the newer QEMU or is this machine's."""
+    package = PACKAGES[name]
+    for root in (os.path.join(images.OUT, "qemu"), ""):
+        for path in (f"{root}/usr/share/doc/{package}/changelog.Debian.gz", f"{root}/usr/share/doc/{package}/changelog.gz"):
+            if os.path.exists(path):
+                with gzip.open(path, "rt", encoding="utf-8", errors="replace") as file:
+                    found = re.search(r"\((?:\d+:)?([\d.]+)", file.readline())
+                return f"{name} {found[1]}" if found else name
+    return name
+
+
+def keep(trial: Trial, came: Dict[str, Any]) -> None:
+    """Stores what came of a run, beside what is stored."""
+    all_of = stored()
+    all_of["versions"][trial.firmware] = version_of(trial.firmware)
+    all_of["events"].setdefault(trial.event, {})[trial.firmware] = came
+    all_of["events"] = {row.event: all_of["events"][row.event] for row in ROWS if row.event in all_of["events"]}
+    with open(STORED, "w", encoding="utf-8") as file:
+        json.dump(all_of, file, indent=1)
+        file.write("\n")
 
 
 def one(trial: Trial) -> Tuple[Trial, Dict[str, Any]]:
@@ -232,11 +264,7 @@ def run(only: str, jobs: int) -> None:
     """Runs each firmware under each event whose name, or its own, has a word, and stores what came as it comes."""
     with ThreadPoolExecutor(jobs) as pool:
         for trial, came in pool.map(one, [it for it in TRIALS if only in f"{it.firmware}, {it.event}"]):
-            all_of = stored()
-            all_of.setdefault(trial.event, {})[trial.firmware] = came
-            with open(STORED, "w", encoding="utf-8") as file:
-                json.dump({row.event: all_of[row.event] for row in ROWS if row.event in all_of}, file, indent=1)
-                file.write("\n")
+            keep(trial, came)
 
 
 CHECKS = [check_of(it) for it in TRIALS]

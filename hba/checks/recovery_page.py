@@ -45,6 +45,8 @@ def failed_of(came: Came) -> str:
     """How many requests failed."""
     if came["hangs"]:
         return "it hangs"
+    if "mixed" not in came:
+        return "no disk is found"
     found = re.match(r"requests (\d+) .* errors (\d+) wrong (\d+)", came["mixed"])
     wrong = f"; {found[3]} read wrong" if found and found[3] != "0" else ""
     return str(found[2] if found else came["mixed"]) + wrong + ("; the disk is gone" if came["again"] == "no disk" else "")

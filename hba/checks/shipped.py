@@ -7,7 +7,7 @@ from typing import List, Sequence
 
 from suite import Check, expect
 import surviving
-from surviving import BOTH, FAILED, MANY, NONE, ONE, RESET, SHIPPED, SOME, Event
+from surviving import BOTH, FAILED, MANY, NONE, ONE, RESET, SHIPPED, SOME, UNFOUND, Event
 
 UNC, IDNF, ABRT = (rf"error: \{{ {name} \}}" for name in ("UNC", "IDNF", "ABRT"))
 UNCHECKED = r"failed to read log page 10h"
@@ -34,8 +34,8 @@ EVENTS: Sequence[Event] = (
     shipped("fails_again_during_recovery", NONE, [UNCHECKED, RESET], words="libata.force=nodmalog"),  # else it reads the log by READ LOG DMA EXT
     shipped("an_aborted_flush", NONE, [ABRT], words="flushes=1", options=["--write-cache"], told=[("flush", "right")],
             instead=[("FLUSH CACHE EXT", "FLUSH CACHE")]),  # as Linux flushes a disk of less than 2^28 sectors
-    shipped("identify_fails", NONE, [r"failed to IDENTIFY"]),
-    shipped("identify_stays_busy", NONE, [r"qc timeout", RESET]),
+    shipped("identify_fails", UNFOUND, is_quiet=True, words="appears=60"),
+    shipped("identify_stays_busy", NONE, [r"qc timeout", r"failed to IDENTIFY"]),
     shipped("a_command_without_an_answer", NONE, [RESET]),
     shipped("a_device_fault", NONE, [r"status: \{ DRDY DF ERR \}"], is_alone=True),
     shipped("a_fault_without_an_error", NONE, is_quiet=True, wrong=1, is_alone=True),

@@ -23,6 +23,7 @@ SECONDS = 400  # of an idle machine
 KERNELS = {"kernel": "Linux", "current": "The current Linux"}  # by the folder of out/
 REQUESTS = r"requests (\d+) compared (\d+) errors (\d+) wrong (\d+)(?: kept (\d+) lost (\d+))?"
 NONE, ONE, SOME, MANY = "none", "one", "some", "many"  # how many requests fail: MANY is at least a tenth of them
+UNFOUND = "there is no disk"  # Linux finds none, so no request is made
 BAD = r"(?:WARNING|BUG): |Call Trace|blocked for more than|Oops|general protection|Kernel panic"
 # Linux's lines about the disk; numbers that differ from run to run are left out
 ABOUT = r"^(?:\[ *[\d.]+\] )?((?:ata1(?:\.00)?|ahci 0000:00:..\.0|sd \d:0:0:0|scsi \d:0:0:0|I/O error|critical \w+ error|blk_update_request|Buffer I/O error).*)$"
@@ -175,6 +176,10 @@ def look(event: Event, folder: str, came: Dict[str, Any]) -> str:
     """Compares what came with what is written down."""
     told = came["told"]
     where = f"{event.name} on {KERNELS[folder]}"
+    if event.errors == UNFOUND:
+        expect(told.get("failed:") == UNFOUND and "end" in told and came["happened"] and not came["bad"] and came["status"] == 0, f"{where}: {told}, {came['bad']}, status {came['status']}")
+        expect(not event.is_quiet or not came["says"], f"{where}: Linux writes {came['says'][:6]}")
+        return UNFOUND
     expect(not came["hangs"] and "mixed" in told and "end" in told, f"{where}: it hangs; the last lines:\n{came['end']}")
     expect(came["happened"], f"{where}: the event never happened")
     expect(came["status"] in (0, BROKE_A_RULE), f"{where}: status {came['status']}")

@@ -1,0 +1,49 @@
+"""The section "Firmware under events" of docs/DRIVERS.md, from the stored runs of firmware.py."""
+from __future__ import annotations
+
+from typing import Any, Dict, List
+
+import firmware
+from recovery_page import broken_of, reports_table
+
+MOST_LINES = 2  # of what a firmware says
+
+
+def cell_of(came: Dict[str, Any]) -> str:
+    """What a firmware did, and what it said."""
+    said = "; ".join(f"`{it}`" for it in came["says"][:MOST_LINES]) + ("; .." if len(came["says"]) > MOST_LINES else "")
+    return f"{came['did']}: {said}" if said else str(came["did"])
+
+
+def names_of(found: Dict[str, Any]) -> List[str]:
+    """The firmware of which something is stored."""
+    return [it for it in firmware.MACHINES if any(it in came for came in found["events"].values())]
+
+
+def events_table(found: Dict[str, Any]) -> List[str]:
+    """What each firmware did about each event."""
+    names = names_of(found)
+    lines = ["| Event | Script | " + " | ".join(found["versions"].get(name, name) for name in names) + " |", "|---" * (2 + len(names)) + "|"]
+    for row in firmware.ROWS:
+        came = found["events"].get(row.event)
+        if came:
+            script = firmware.script_text(row, names[0])
+            lines.append(f"| {row.event} | `{script}` | " + " | ".join(cell_of(came[name]) if name in came else "" for name in names) + " |")
+    return lines
+
+
+def section() -> List[str]:
+    """The section of the page."""
+    found = firmware.stored()
+    if not found["events"]:
+        return []
+    lines = ["", "## Firmware under events", "",
+             "SeaBIOS, GRUB's own driver and EDK2's use the disk while an event happens; `hba/drivers --firmware` makes the runs ([firmware.py](../hba/checks/firmware.py)). On SeaBIOS "
+             f"{firmware.MACHINES['SeaBIOS'].title}. On GRUB {firmware.MACHINES['GRUB'].title}. On EDK2 {firmware.MACHINES['EDK2'].title}. The scripts are those for SeaBIOS, "
+             "whose third READ DMA is the one of 64 sectors; for GRUB and EDK2 it is the 120th, in the midst of the first sum.", "",
+             f"\"{firmware.RIGHT}\": all is read and written, and no error is said. \"{firmware.AGAIN}\": an error is said, and the same request comes right when it is made once more. "
+             f"\"{firmware.GIVEN_UP}\": so does every request after it. \"{firmware.WRONG}\": no error is said, and the data are not the disk's.", "", *events_table(found)]
+    for name in names_of(found):
+        runs = {"events": {event: came[name] for event, came in found["events"].items() if name in came}}
+        lines += ["", f"### What {found['versions'].get(name, name)} does about each event", "", f"[Rules](#rules-that-are-broken) that are broken meanwhile: {broken_of(runs)}.", "", *reports_table(runs)]
+    return lines
