@@ -77,13 +77,53 @@ def did(name: str, event: str) -> str:
     return str(came["did"]) if came else ""
 
 
+def told(name: str, script: str, what: str) -> str:
+    """What a kernel's guest has told under a script; nothing if it has not."""
+    return str(runs_of(name)[script].get(what, ""))
+
+
 def wrong(name: str, script: str) -> int:
     """How many reads were taken as right and were not, by a kernel under a script."""
     words = runs_of(name).get(script, {}).get("mixed", "").split()
     return int(words[words.index("wrong") + 1]) if "wrong" in words else 0
 
 
-FINDINGS: Sequence[Finding] = ()
+def both(holds: Callable[[str], bool]) -> bool:
+    """Whether something is so on each kernel that was run under all scripts, up to the last one."""
+    return all(holds(it) for it in surviving.KERNELS if "power_is_lost.events" in runs_of(it))
+
+
+FINDINGS: Sequence[Finding] = (
+    Finding("Linux finds no disk that aborts one IDENTIFY DEVICE",
+            "The first IDENTIFY DEVICE is aborted. Linux takes the port for one without a device: it makes no other try, and writes no line about it, so that a disk that is not ready for a moment is gone until somebody\n"
+            "has the port looked at again. The error itself it handles by section 6.2.2.1. One that stays busy instead is found after the time-out of five seconds (`identify_stays_busy.events`).",
+            "on first IDENTIFY DEVICE do fail 04", lambda: both(lambda it: not told(it, "identify_fails.events", "mixed") and not runs_of(it)["identify_fails.events"]["says"])),
+    Finding("Linux takes a read that was cut short, and one that ended with a device fault, for right",
+            "Without a queue. In the first script the disk answers a read by DF without ERR and moves nothing; in the second one it answers without an error and moves only the sectors before 1000, as PRDBC says. The port does not halt,\n"
+            "since ERR is 0 (section 5.3, RegFIS:Entry), and Linux looks neither at DF in the received FIS nor at PRDBC (section 4.2.2): the caller gets what was in its buffer before.",
+            "on 20th read do end 60\non every read sector 1000 do end 50 repeat 3",
+            lambda: both(lambda it: wrong(it, "a_fault_without_an_error.events") == 1 and wrong(it, "a_short_read.events") == 3)),
+    Finding("Linux starts a port that has lost its registers with a command list at address 0",
+            "The controller is as after power-on in the midst of requests, as after a reset that nobody told Linux of. After a COMRESET Linux sets ST, and neither FRE nor PxCLB and PxFB before it (section 10.1.2). The controller then takes\n"
+            "headers of commands from address 0 of memory, as the rules `ReservedHeader` and `FisLength` show, and would write where such headers say. Linux gives the disk up in the end.",
+            "on 1000th any do power_on", lambda: both(lambda it: told(it, "power_is_lost.events", "again") == "no disk" and "ListNotGiven" in runs_of(it)["power_is_lost.events"]["broken"])),
+    Finding("SeaBIOS never starts a port again that was halted by something else than a failed command",
+            "After a CRC error that stops the port (IFS), memory that is not there (HBFS), a read that is never answered, or a disk that was out for a moment, INT 13h fails after 32 seconds. SeaBIOS clears ST in none of these cases\n"
+            "(section 6.2.2.1), so each later request fails as well, 32 seconds later: one such error and the machine does not boot.",
+            "on 3rd READ DMA do fatal_crc_error",
+            lambda: all(did("SeaBIOS", it) == firmware.GIVEN_UP for it in ("a CRC error that stops the port", "no memory, HBFS", "a read is never answered", "the disk is pulled out, and is back a second later"))),
+    Finding("SeaBIOS does not boot from a disk that fails once",
+            "One error at the first sector, or one IDENTIFY DEVICE that is aborted: SeaBIOS tries neither again, and says `No bootable device.`",
+            "on first read sector 0 do fail 40", lambda: did("SeaBIOS", "the first sector can't be read once") == did("SeaBIOS", "IDENTIFY DEVICE is aborted") == firmware.NO_BOOT),
+    Finding("EDK2 takes a device fault, and a disk that is still busy, for the end of a read",
+            "The FIS that answers a read has DF without ERR, or BSY, and no data were moved. EDK2 takes the FIS for the end of the read, whatever\n"
+            "its status says beside ERR (section 5.3, RegFIS:Entry; while BSY is 1 PxCI still has the command).",
+            "on 120th READ DMA do end 60\non 120th READ DMA do end D0",
+            lambda: did("EDK2", "device fault, DF alone") == did("EDK2", "the disk stays busy after a read") == firmware.WRONG),
+    Finding("No firmware looks at PRDBC",
+            "A read ends without an error and has moved fewer bytes than it was to (section 4.2.2). SeaBIOS, GRUB and EDK2 take all of the buffer.",
+            "on 3rd READ DMA do end 50", lambda: all(did(it, "a short read, as PRDBC says") == firmware.WRONG for it in firmware.MACHINES)),
+)
 
 
 def section() -> List[str]:

@@ -22,7 +22,6 @@ import pace
 import recoveries
 from suite import Check, Failed, expect
 
-SECONDS = 200  # of an idle machine; without an end by then it hangs
 TRIES = 2      # of each call of INT 13h
 SHIPPED = os.path.join(os.path.dirname(HERE), "host", "events")
 # what a firmware did about an event
@@ -43,6 +42,7 @@ class Machine(NamedTuple):
     image: Callable[[str], str]
     words: Callable[[str], List[str]]
     end: str
+    seconds: int  # of an idle machine; without an end by then it hangs, or no request comes right
     looked: Callable[[str, str], Tuple[str, List[str]]]
 
 
@@ -82,7 +82,7 @@ def grub_looked(room: str, image: str) -> Tuple[str, List[str]]:
     if any(it != right for it in sums):
         return WRONG, said
     if "CHECK end" not in serial:
-        return HANGS, said
+        return GIVEN_UP if said else HANGS, said
     is_written = file_in(image, "env.bin").startswith(b"# GRUB Environment Block\nwritten=by_grub_on_") and "hello from the disk" in serial
     return (RIGHT if len(sums) == 2 and not said else AGAIN if sums and is_written else SAID if sums or is_written else GIVEN_UP), said
 
@@ -93,9 +93,9 @@ def grub_image(room: str) -> str:
 
 MACHINES: Dict[str, Machine] = {
     "SeaBIOS": Machine("a boot sector reads 1 and 64 sectors, writes 2 and reads them again, each by INT 13h and twice if it fails",
-                       lambda room: images.sector_image(room, TRIES)[0], debugged, r"^(end$|No bootable device)", seabios_looked),
-    "GRUB": Machine("`nativedisk ahci`, the SHA-256 of 4 MiB twice, a file, `save_env`", grub_image, debugged, r"^(CHECK end$|No bootable device)", grub_looked),
-    "EDK2": Machine("GRUB does the same by the firmware's driver", grub_image, uefi, r"^CHECK end$|BdsDxe: No bootable option", grub_looked),
+                       lambda room: images.sector_image(room, TRIES)[0], debugged, r"^(end$|No bootable device)", 120, seabios_looked),
+    "GRUB": Machine("`nativedisk ahci`, the SHA-256 of 4 MiB twice, a file, `save_env`", grub_image, debugged, r"^(CHECK end$|No bootable device)", 40, grub_looked),
+    "EDK2": Machine("GRUB does the same by the firmware's driver", grub_image, uefi, r"^CHECK end$|BdsDxe: No bootable option", 120, grub_looked),
 }
 
 
@@ -112,11 +112,11 @@ ROWS: Sequence[Row] = (
     Row("a read fails once", "{read} do fail 40", (AGAIN, AGAIN, RIGHT)),
     Row("the first sector can't be read once", "on first read sector 0 do fail 40", (NO_BOOT, NO_BOOT, RIGHT)),
     Row("a write fails", "{write} do fail 10", (AGAIN, SAID, SAID)),
-    Row("IDENTIFY DEVICE is aborted", "on first IDENTIFY DEVICE do fail 04", (NO_BOOT, NO_BOOT, RIGHT)),
-    Row("the disk stays busy after IDENTIFY DEVICE", "on first IDENTIFY DEVICE do end D0", (NO_BOOT, NO_BOOT, RIGHT)),
+    Row("IDENTIFY DEVICE is aborted", "on first IDENTIFY DEVICE do fail 04", (NO_BOOT, NO_BOOT, NO_BOOT)),
+    Row("the disk stays busy after IDENTIFY DEVICE", "on first IDENTIFY DEVICE do end D0", (NO_BOOT, NO_BOOT, NO_BOOT)),
     Row("a read takes five seconds", "{read} do slow 5s", (RIGHT, RIGHT, RIGHT)),
     Row("a read is never answered", "{read} do stall", (GIVEN_UP, AGAIN, RIGHT)),
-    Row("the disk stays busy after a read", "{read} do end D0", (GIVEN_UP, AGAIN, RIGHT)),
+    Row("the disk stays busy after a read", "{read} do end D0", (GIVEN_UP, AGAIN, WRONG)),
     Row("device fault, DF and ERR", "{read} do end 61", (AGAIN, AGAIN, RIGHT)),
     Row("device fault, DF alone", "{read} do end 60", (AGAIN, WRONG, WRONG)),
     Row("a short read, as PRDBC says", "{read} do end 50", (WRONG, WRONG, WRONG)),
@@ -159,11 +159,11 @@ def script_of(room: str, script: str) -> str:
     return path
 
 
-def is_at_end(guest: Guest, room: str, end: str) -> bool:
+def is_at_end(guest: Guest, room: str, machine: Machine) -> bool:
     """Waits until the guest has written its last line, on the serial port or where SeaBIOS writes, or has ended; false if it does neither."""
-    limit = pace.Limit(SECONDS)
+    limit = pace.Limit(machine.seconds)
     while not limit.has_passed():
-        if guest.process.poll() is not None or re.search(end, guest.serial() + serial_of(os.path.join(room, "debug")), re.MULTILINE):
+        if guest.process.poll() is not None or re.search(machine.end, guest.serial() + serial_of(os.path.join(room, "debug")), re.MULTILINE):
             return True
         time.sleep(0.1)
     return False
@@ -175,7 +175,7 @@ def outcome(room: str, trial: Trial) -> Dict[str, Any]:
     image = machine.image(room)
     options = ["--image", image, "--script", script_of(room, trial.script), "--json", found]
     guest = Guest(room, options, qemu(room, *machine.words(room)), log=False)
-    ends = is_at_end(guest, room, machine.end)
+    ends = is_at_end(guest, room, machine)
     if guest.process.poll() is None:
         guest.process.send_signal(signal.SIGTERM)
         expect(pace.ended(guest.process, 60), f"{trial.firmware}, {trial.event}: the program doesn't end")

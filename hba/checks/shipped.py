@@ -3,20 +3,20 @@ from __future__ import annotations
 
 import glob
 import os
-from typing import List, Sequence
+from typing import Any, List, Sequence
 
 from suite import Check, expect
 import surviving
-from surviving import BOTH, FAILED, MANY, NONE, ONE, RESET, SHIPPED, SOME, UNFOUND, Event
+from surviving import FAILED, MANY, NONE, ONE, RESET, SHIPPED, SOME, UNFOUND, Event
 
 UNC, IDNF, ABRT = (rf"error: \{{ {name} \}}" for name in ("UNC", "IDNF", "ABRT"))
 UNCHECKED = r"failed to read log page 10h"
 BUSY_MACHINE = "patience=60"  # seconds of a command: no time-out comes by a machine that is slow
 
 
-def shipped(name: str, errors: str, says: Sequence[str] = (), **more: object) -> Event:
+def shipped(name: str, errors: str, says: Sequence[str] = (), **more: Any) -> Event:
     """A script that is shipped; both kernels do the same unless another row says what one of them does."""
-    return Event(f"{name}.events", f"{name}.events", errors, says, **{"kernels": BOTH, **more})  # type: ignore[arg-type]
+    return Event(f"{name}.events", f"{name}.events", errors, says, **more)
 
 
 EVENTS: Sequence[Event] = (

@@ -31,6 +31,9 @@ RESET = r"ata1: hard resetting link"
 FAILED = r"ata1: COMRESET failed \(errno=-16\)"
 
 
+BOTH = ("kernel", "current")
+
+
 class Event(NamedTuple):
     """An event, as a script; how many requests fail by it; and lines of Linux that have to come."""
     name: str
@@ -41,7 +44,7 @@ class Event(NamedTuple):
     is_quiet: bool = False  # Linux says nothing of it
     wrong: int = 0          # so many reads give the user other data than the disk's: Linux takes as done what isn't
     is_alone: bool = False  # without a queue: `end` is about commands that aren't queued
-    kernels: Sequence[str] = ("kernel",)  # those that are tried
+    kernels: Sequence[str] = BOTH  # those that are tried
     options: Sequence[str] = ()  # of the program
     pick: str = "random"         # its option
     words: str = ""              # of the kernel's command line
@@ -61,11 +64,10 @@ def each(events: Sequence[str]) -> str:
 ALONE = ["--cap", "sncq=0"]
 USUAL_ALONE = (r"ahci 0000:00:..\.0: flags: .*", r"ata1\.00: \d+ sectors, multi 0: LBA48 NCQ \(depth 0/32\)")
 ERRORS = ("decode", "crc", "handshake", "sequence", "transport")
-BOTH = ("kernel", "current")
 ROW = ("fail 40", "no_memory", "fatal_crc_error", "lose_link then wait 100ms then find_link", "unplug then wait 2s then plug", "slow_cr 300ms then fatal_handshake_error")
 EVENTS: Sequence[Event] = (
-    Event("one after the other", each(ROW).replace("any do fail", "read do fail"), ONE, [RESET, r"host bus error", r"interface fatal error"], kernels=BOTH),
-    Event("stall", at("stall"), NONE, [RESET], kernels=BOTH),
+    Event("one after the other", each(ROW).replace("any do fail", "read do fail"), ONE, [RESET, r"host bus error", r"interface fatal error"]),
+    Event("stall", at("stall"), NONE, [RESET]),
     Event("slow, late_interrupt, send_interrupt, find_link", each(("slow 300ms", "late_interrupt 100ms", "send_interrupt", "find_link")), NONE, is_quiet=True),
     Event("fail 40, a read", at("fail 40", "on 700th read"), ONE, [r"error: \{ UNC \}"]),
     Event("fail 40, a write", at("fail 40", "on 200th write"), ONE, [r"error: \{ UNC \}"]),
@@ -73,18 +75,18 @@ EVENTS: Sequence[Event] = (
     Event("fail 04", at("fail 04"), NONE, [r"error: \{ ABRT \}"]),
     Event("fail 84", at("fail 84"), NONE, [r"error: \{ ICRC ABRT \}"]),
     Event("no_memory", at("no_memory"), NONE, [RESET, r"host bus error"]),
-    Event("lose_interrupt", at("lose_interrupt"), NONE, kernels=BOTH),
+    Event("lose_interrupt", at("lose_interrupt"), NONE),
     Event("power_on", at("power_on"), MANY, [RESET], "no disk"),
     Event("lose_link", at("lose_link"), NONE, [RESET]),
     Event("lose_link, find_link", at("lose_link then wait 100ms then find_link"), NONE, [RESET]),
     Event("unplug", at("unplug"), MANY, [r"ata1\.00: disable"], "no disk"),
     Event("unplug, plug", at("unplug then wait 2s then plug"), NONE, [RESET]),
-    Event("crc_error and the four like it", each([f"{it}_error" for it in ERRORS]), NONE, is_quiet=True, kernels=BOTH),
+    Event("crc_error and the four like it", each([f"{it}_error" for it in ERRORS]), NONE, is_quiet=True),
     Event("fatal_crc_error and the four like it", each([f"fatal_{it}_error" for it in ERRORS]), NONE, [RESET, r"interface fatal error"]),
     Event("hold_signature", at("hold_signature 3s then fatal_crc_error"), NONE, [RESET]),
     Event("lose_signature", at("lose_signature then fatal_crc_error"), NONE, [RESET, FAILED]),
     Event("wrong_log_tag", at("fail 40 then wrong_log_tag", "on 700th read"), ONE),
-    Event("wrong_log_nq", at("fail 40 then wrong_log_nq", "on 700th read"), NONE, [r"failed to read log page 10h"]),
+    Event("wrong_log_nq", at("fail 40 then wrong_log_nq", "on 700th read"), NONE, [r"failed to read log page 10h"], kernels=("kernel",)),
     # it takes the error as that of each command that is outstanding
     Event("wrong_log_nq", at("fail 40 then wrong_log_nq", "on 700th read"), SOME, [r"failed to read log page 10h"], kernels=("current",)),
     Event("wrong_log_sum", at("fail 40 then wrong_log_sum", "on 700th read"), ONE),
