@@ -2,7 +2,7 @@
 from __future__ import annotations
 
 import re
-from typing import Any, Dict, List, Sequence
+from typing import Any, Dict, List, Sequence, Set
 
 import recoveries
 import shipped
@@ -123,6 +123,56 @@ def broken_of(found: Came) -> str:
     return "; ".join(f"`{name}`: {', '.join(f'`{it}`' for it in came['broken'])}" for name, came in found["events"].items() if came["broken"]) or "none"
 
 
+# ---- what two kernels do otherwise ----
+
+
+def result_of(came: Came) -> str:
+    """What came of the requests, without numbers that differ from run to run."""
+    found = re.match(r"requests (\d+) .* errors (\d+) wrong (\d+)", came.get("mixed", ""))
+    if came["hangs"] or not found:
+        return failed_of(came)
+    errors = int(found[2])
+    return ("no request fails" if errors == 0 else "one request fails" if errors == 1 else "some requests fail") + (f", {found[3]} are read wrong" if found[3] != "0" else "") \
+        + (", and the disk is gone" if came["again"] == "no disk" else "")
+
+
+def left_out(came: Came) -> Dict[str, Set[str]]:
+    """By event, the steps that a kernel never takes in a run, or takes in another order."""
+    found: Dict[str, Set[str]] = {}
+    for it in came["recoveries"]:
+        for step, states in it["steps"].items():
+            if not states.get(SEEN):
+                found.setdefault(it["event"], set()).add(f"{step} ({', '.join(LATE if state == LATE else 'left out' for state in states)})")
+    return found
+
+
+def differences(first: Came, second: Came) -> List[str]:
+    """A sentence for each script that two kernels were run under, and do otherwise."""
+    lines: List[str] = []
+    steps: Dict[str, List[str]] = {}
+    for name in [it for it in names_of({"": first}, [*surviving.EVENTS, *shipped.EVENTS]) if it in second["events"]]:
+        before, after = first["events"][name], second["events"][name]
+        parts = [f"{result_of(before)} on {first['version']}, and {result_of(after)} on {second['version']}"] if result_of(before) != result_of(after) else []
+        parts += [f"{first['version']} breaks {', '.join(before['broken']) or 'no rule'}, and {second['version']} {', '.join(after['broken']) or 'none'}"] if before["broken"] != after["broken"] else []
+        lines += [f"- `{name}`: {'; '.join(parts)}."] if parts else []
+        of_first, of_second = left_out(before), left_out(after)
+        for event in sorted(of_first.keys() | of_second.keys()):
+            mine, other = of_first.get(event, set()) - of_second.get(event, set()), of_second.get(event, set()) - of_first.get(event, set())
+            for version, found in ((first["version"], mine), (second["version"], other)):
+                for step in sorted(found):
+                    steps.setdefault(f"Only {version} after `{event}`: {step}", []).append(name)
+    lines += [f"- {what}, under {', '.join(f'`{name}`' for name in dict.fromkeys(names))}." for what, names in sorted(steps.items())]
+    return lines
+
+
+def differences_section(all_of: Dict[str, Came]) -> List[str]:
+    if len(all_of) < 2:
+        return []
+    first, second = list(all_of.values())[:2]
+    both = [it for it in second["events"] if it in first["events"]]
+    return ["", f"### What {first['version']} and {second['version']} do otherwise", "", f"Of {len(both)} scripts that both were run under:", "", *differences(first, second)]
+
+
 def section() -> List[str]:
     """The section of the page."""
     all_of = {folder: found for folder, found in ((it, recoveries.stored(it)) for it in surviving.KERNELS) if found["events"]}
@@ -141,4 +191,4 @@ def section() -> List[str]:
         lines += ["", f"### What {found['version']} does about each event", "",
                   "By the [reports of recovery](../hba/README.md#reports-of-recovery): \"all in order\" are the steps of the section of AHCI 1.3.1, \"-\" is an event that asks for none. "
                   f"[Rules](#rules-that-are-broken) that it breaks meanwhile: {broken_of(found)}.", "", *reports_table(found)]
-    return lines
+    return lines + differences_section(all_of)
