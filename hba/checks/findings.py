@@ -115,6 +115,10 @@ FINDINGS: Sequence[Finding] = (
     Finding("SeaBIOS does not boot from a disk that fails once",
             "One error at the first sector, or one IDENTIFY DEVICE that is aborted: SeaBIOS tries neither again, and says `No bootable device.`",
             "on first read sector 0 do fail 40", lambda: did("SeaBIOS", "the first sector can't be read once") == did("SeaBIOS", "IDENTIFY DEVICE is aborted") == firmware.NO_BOOT),
+    Finding("GRUB reads nothing any more after one read that failed",
+            "GRUB's own driver (`nativedisk ahci`) stops the port after an error and starts it again, without clearing TFES in PxIS before (section 6.2.2.1, rule `StartWithErrors`). Then it sends the command DEVICE RESET, 08h, which\n"
+            "is for packet devices and which a disk aborts (ACS-3). The port is halted again, and GRUB does not stop it a second time: each later request waits for more than a minute and fails, or the disk is not found.",
+            "on 120th READ DMA do fail 40", lambda: did("GRUB", "a read fails once") == firmware.GIVEN_UP and "StartWithErrors" in runs_of("GRUB")["a read fails once"]["broken"]),
     Finding("EDK2 takes a device fault, and a disk that is still busy, for the end of a read",
             "The FIS that answers a read has DF without ERR, or BSY, and no data were moved. EDK2 takes the FIS for the end of the read, whatever\n"
             "its status says beside ERR (section 5.3, RegFIS:Entry; while BSY is 1 PxCI still has the command).",

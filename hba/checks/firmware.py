@@ -94,7 +94,7 @@ def grub_image(room: str) -> str:
 MACHINES: Dict[str, Machine] = {
     "SeaBIOS": Machine("a boot sector reads 1 and 64 sectors, writes 2 and reads them again, each by INT 13h and twice if it fails",
                        lambda room: images.sector_image(room, TRIES)[0], debugged, r"^(end$|No bootable device)", 120, seabios_looked),
-    "GRUB": Machine("`nativedisk ahci`, the SHA-256 of 4 MiB twice, a file, `save_env`", grub_image, debugged, r"^(CHECK end$|No bootable device)", 40, grub_looked),
+    "GRUB": Machine("`nativedisk ahci`, the SHA-256 of 4 MiB twice, a file, `save_env`", grub_image, debugged, r"^(CHECK end$|No bootable device)", 30, grub_looked),
     "EDK2": Machine("GRUB does the same by the firmware's driver", grub_image, uefi, r"^CHECK end$|BdsDxe: No bootable option", 120, grub_looked),
 }
 

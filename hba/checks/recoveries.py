@@ -65,7 +65,7 @@ def one(folder: str, event: surviving.Event) -> Tuple[str, Dict[str, Any]]:
     print(f"{folder}: {event.name}: {said}", flush=True)
     broken = sorted({it["rule"] for it in came["rules"] if it["verdict"] == "broken"})
     told = {name: came["told"][name] for name in ("mixed", "again", "flush") if name in came["told"]}
-    return event.name, {**told, "broken": broken, "hangs": came["hangs"], "says": came["says"], "recoveries": merged(came["recoveries"])}
+    return event.name, {**told, "firmware": "qboot", "broken": broken, "hangs": came["hangs"], "says": came["says"], "recoveries": merged(came["recoveries"])}
 
 
 def keep(folder: str, found: Dict[str, Any]) -> None:
@@ -76,10 +76,11 @@ def keep(folder: str, found: Dict[str, Any]) -> None:
         file.write("\n")
 
 
-def run(only: str, jobs: int, kernel: str = "") -> None:
-    """Runs each kernel, or one, under each event whose name has a word, and stores what came as it comes."""
+def run(only: str, jobs: int, kernel: str = "", is_new: bool = False) -> None:
+    """Runs each kernel, or one, under each event whose name has a word, or of these under those that nothing is stored of, and stores what came as it comes."""
     for folder in surviving.KERNELS:
-        events = [it for it in events_of(folder) if only in it.name and kernel in ("", folder)]
+        known = stored(folder)["events"] if is_new else {}
+        events = [it for it in events_of(folder) if only in it.name and kernel in ("", folder) and it.name not in known]
         with ThreadPoolExecutor(jobs) as pool:
             for name, came in pool.map(functools.partial(one, folder), events):
                 keep(folder, {name: came})

@@ -173,6 +173,13 @@ def differences_section(all_of: Dict[str, Came]) -> List[str]:
     return ["", f"### What {first['version']} and {second['version']} do otherwise", "", f"Of {len(both)} scripts that both were run under:", "", *differences(first, second)]
 
 
+def alone_of(all_of: Dict[str, Came]) -> str:
+    """Who had the controller before Linux."""
+    first = sum("firmware" not in came for found in all_of.values() for came in found["events"].values())
+    before = f" In {first} runs, which are older, SeaBIOS uses the disk before Linux does, and what it breaks is listed with them: `ReceivingClearedWhileStarted`." if first else ""
+    return f"It has the controller for itself, on qboot.{before}"
+
+
 def section() -> List[str]:
     """The section of the page."""
     all_of = {folder: found for folder, found in ((it, recoveries.stored(it)) for it in surviving.KERNELS) if found["events"]}
@@ -180,7 +187,7 @@ def section() -> List[str]:
         return []
     lines = ["", "## Recovery", "",
              "Linux makes 2,500 requests in a queue of 32 commands while a [script](../host/README.md#scripts-of-events) of [surviving.py](../hba/checks/surviving.py) goes on; each read is compared, and at the end each block is",
-             "read once more. It has the controller for itself, on qboot. No write that was answered was lost. \"Read wrong\" is a read that Linux took as done and whose data are not the disk's: it looks neither at DF",
+             f"read once more. {alone_of(all_of)} No write that was answered was lost. \"Read wrong\" is a read that Linux took as done and whose data are not the disk's: it looks neither at DF",
              "without ERR nor at PRDBC. No other data were wrong. `hba/drivers --recovery` makes the runs.", "", *runs_table(all_of)]
     scripts = scripts_table(all_of)
     if len(scripts) > 2:
