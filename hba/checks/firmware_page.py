@@ -4,15 +4,25 @@ from __future__ import annotations
 from typing import Any, Dict, List
 
 import firmware
-from recovery_page import broken_of, reports_table
+from recovery_page import reports_table
 
 MOST_LINES = 2  # of what a firmware says
+MOST_EVENTS = 3  # that are named beside a rule
 
 
 def cell_of(came: Dict[str, Any]) -> str:
     """What a firmware did, and what it said."""
-    said = "; ".join(f"`{it}`" for it in came["says"][:MOST_LINES]) + ("; .." if len(came["says"]) > MOST_LINES else "")
+    said = "; ".join("`" + it.replace("`", "'") + "`" for it in came["says"][:MOST_LINES]) + ("; .." if len(came["says"]) > MOST_LINES else "")
     return f"{came['did']}: {said}" if said else str(came["did"])
+
+
+def broken_of(runs: Dict[str, Any]) -> str:
+    """The rules that a firmware breaks, with the events under which it does."""
+    by_rule: Dict[str, List[str]] = {}
+    for event, came in runs.items():
+        for rule in came["broken"]:
+            by_rule.setdefault(rule, []).append(event)
+    return "; ".join(f"`{rule}` ({', '.join(events) if len(events) <= MOST_EVENTS else f'{len(events)} of {len(runs)} runs'})" for rule, events in by_rule.items()) or "none"
 
 
 def names_of(found: Dict[str, Any]) -> List[str]:
@@ -42,8 +52,8 @@ def section() -> List[str]:
              f"{firmware.MACHINES['SeaBIOS'].title}. On GRUB {firmware.MACHINES['GRUB'].title}. On EDK2 {firmware.MACHINES['EDK2'].title}. The scripts are those for SeaBIOS, "
              "whose third READ DMA is the one of 64 sectors; for GRUB and EDK2 it is the 120th, in the midst of the first sum.", "",
              f"\"{firmware.RIGHT}\": all is read and written, and no error is said. \"{firmware.AGAIN}\": an error is said, and the same request comes right when it is made once more. "
-             f"\"{firmware.GIVEN_UP}\": so does every request after it. \"{firmware.WRONG}\": no error is said, and the data are not the disk's.", "", *events_table(found)]
+             f"\"{firmware.SAID}\": an error is said, and the request is not made again. \"{firmware.GIVEN_UP}\": the same request fails again, or has no end. \"{firmware.WRONG}\": no error is said, and the data are not the disk's.", "", *events_table(found)]
     for name in names_of(found):
-        runs = {"events": {event: came[name] for event, came in found["events"].items() if name in came}}
-        lines += ["", f"### What {found['versions'].get(name, name)} does about each event", "", f"[Rules](#rules-that-are-broken) that are broken meanwhile: {broken_of(runs)}.", "", *reports_table(runs)]
+        runs = {event: came[name] for event, came in found["events"].items() if name in came}
+        lines += ["", f"### What {found['versions'].get(name, name)} does about each event", "", f"[Rules](#rules-that-are-broken) that are broken meanwhile: {broken_of(runs)}.", "", *reports_table({"events": runs})]
     return lines
