@@ -119,11 +119,11 @@ FINDINGS: Sequence[Finding] = (
             "GRUB's own driver (`nativedisk ahci`) stops the port after an error and starts it again, without clearing TFES in PxIS before (section 6.2.2.1, rule `StartWithErrors`). Then it sends the command DEVICE RESET, 08h, which\n"
             "is for packet devices and which a disk aborts (ACS-3). The port is halted again, and GRUB does not stop it a second time: each later request waits for more than a minute and fails, or the disk is not found.",
             "on 120th READ DMA do fail 40", lambda: did("GRUB", "a read fails once") == firmware.GIVEN_UP and "StartWithErrors" in runs_of("GRUB")["a read fails once"]["broken"]),
-    Finding("EDK2 takes a device fault, and a disk that is still busy, for the end of a read",
-            "The FIS that answers a read has DF without ERR, or BSY, and no data were moved. EDK2 takes the FIS for the end of the read, whatever\n"
-            "its status says beside ERR (section 5.3, RegFIS:Entry; while BSY is 1 PxCI still has the command).",
+    Finding("EDK2 and GRUB take a device fault for the end of a read, and EDK2 a disk that is still busy",
+            "The FIS that answers a read has DF without ERR, and no data were moved: EDK2 and GRUB's own driver take the read as done, and SeaBIOS says an error. In the second script the status of the FIS has BSY, so that PxCI still has\n"
+            "the command (section 5.3, RegFIS:Entry): EDK2 takes that read as done, too.",
             "on 120th READ DMA do end 60\non 120th READ DMA do end D0",
-            lambda: did("EDK2", "device fault, DF alone") == did("EDK2", "the disk stays busy after a read") == firmware.WRONG),
+            lambda: {did(it, "device fault, DF alone") for it in ("EDK2", "GRUB")} == {did("EDK2", "the disk stays busy after a read")} == {firmware.WRONG}),
     Finding("No firmware looks at PRDBC",
             "A read ends without an error and has moved fewer bytes than it was to (section 4.2.2). SeaBIOS, GRUB and EDK2 take all of the buffer.",
             "on 3rd READ DMA do end 50", lambda: all(did(it, "a short read, as PRDBC says") == firmware.WRONG for it in firmware.MACHINES)),
