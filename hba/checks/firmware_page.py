@@ -50,7 +50,9 @@ def section() -> List[str]:
     lines = ["", "## Firmware under events", "",
              "SeaBIOS, GRUB's own driver and EDK2's use the disk while an event happens; `hba/drivers --firmware` makes the runs ([firmware.py](../hba/checks/firmware.py)). On SeaBIOS "
              f"{firmware.MACHINES['SeaBIOS'].title}. On GRUB {firmware.MACHINES['GRUB'].title}. On EDK2 {firmware.MACHINES['EDK2'].title}. The scripts are those for SeaBIOS, "
-             "whose third READ DMA is the one of 64 sectors; for GRUB and EDK2 it is the 120th, in the midst of the first sum.", "",
+             "whose third READ DMA is the one of 64 sectors; for GRUB and EDK2 it is the 120th, in the midst of the first sum, and GRUB's own IDENTIFY DEVICE is the second one. Events of the first "
+             "microsecond come before the reset of the HBA by which SeaBIOS and EDK2 begin; what is done every millisecond is counted each time. Of a read that comes right on EDK2 it isn't told whether EDK2 made it "
+             "once more, or GRUB did.", "",
              f"\"{firmware.RIGHT}\": all is read and written, and no error is said. \"{firmware.AGAIN}\": an error is said, and the same request comes right when it is made once more. "
              f"\"{firmware.SAID}\": an error is said, and the request is not made again. \"{firmware.GIVEN_UP}\": the same request fails again, or has no end. \"{firmware.WRONG}\": no error is said, and the data are not the disk's.", "", *events_table(found)]
     for name in names_of(found):
