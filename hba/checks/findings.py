@@ -5,7 +5,7 @@ from typing import Any, Callable, Dict, List, NamedTuple, Sequence
 
 import firmware
 import recoveries
-from recovery_page import CUT, LATE, MISSING
+from recovery_page import CUT, LATE, MISSING, wrapped
 from suite import expect
 import surviving
 
@@ -93,35 +93,41 @@ def both(holds: Callable[[str], bool]) -> bool:
     return all(holds(it) for it in surviving.KERNELS if "power_is_lost.events" in runs_of(it))
 
 
+HALTING = ("a CRC error that stops the port", "no memory, HBFS", "a read is never answered", "the disk is pulled out, and is back a second later")
 FINDINGS: Sequence[Finding] = (
     Finding("Linux finds no disk that aborts one IDENTIFY DEVICE",
-            "The first IDENTIFY DEVICE is aborted. Linux takes the port for one without a device: it makes no other try, and writes no line about it, so that a disk that is not ready for a moment is gone until somebody\n"
-            "has the port looked at again. The error itself it handles by section 6.2.2.1. One that stays busy instead is found after the time-out of five seconds (`identify_stays_busy.events`).",
+            "The first IDENTIFY DEVICE is aborted. Linux takes the port for one without a device: it makes no other try, and writes no line about it, so that a "
+            "disk that is not ready for a moment is gone until somebody has the port looked at again. One that stays busy instead is found after the time-out of "
+            "five seconds (`identify_stays_busy.events`).",
             "on first IDENTIFY DEVICE do fail 04", lambda: both(lambda it: not told(it, "identify_fails.events", "mixed") and not runs_of(it)["identify_fails.events"]["says"])),
     Finding("Linux takes a read that was cut short, and one that ended with a device fault, for right",
-            "Without a queue. In the first script the disk answers a read by DF without ERR and moves nothing; in the second one it answers without an error and moves only the sectors before 1000, as PRDBC says. The port does not halt,\n"
-            "since ERR is 0 (section 5.3, RegFIS:Entry), and Linux looks neither at DF in the received FIS nor at PRDBC (section 4.2.2): the caller gets what was in its buffer before.",
+            "Without a queue. In the first script the disk answers a read by DF without ERR and moves nothing; in the second one it answers without an error and "
+            "moves only the sectors before 1000, as PRDBC says. The port does not halt, since ERR is 0 (section 5.3, RegFIS:Entry), and Linux looks neither at DF "
+            "in the received FIS nor at PRDBC (section 4.2.2): the caller gets what was in its buffer before.",
             "on 20th read do end 60\non every read sector 1000 do end 50 repeat 3",
             lambda: both(lambda it: wrong(it, "a_fault_without_an_error.events") == 1 and wrong(it, "a_short_read.events") == 3)),
     Finding("Linux starts a port that has lost its registers with a command list at address 0",
-            "The controller is as after power-on in the midst of requests, as after a reset that nobody told Linux of. After a COMRESET Linux sets ST, and neither FRE nor PxCLB and PxFB before it (section 10.1.2). The controller then takes\n"
-            "headers of commands from address 0 of memory, as the rules `ReservedHeader` and `FisLength` show, and would write where such headers say. Linux gives the disk up in the end.",
+            "The controller is as after power-on in the midst of requests, as after a reset that nobody told Linux of. After a COMRESET Linux sets ST, and neither "
+            "FRE nor PxCLB and PxFB before it (section 10.1.2). The controller then takes headers of commands from address 0 of memory, as the rules "
+            "`ReservedHeader` and `FisLength` show, and would write where such headers say. Linux gives the disk up in the end.",
             "on 1000th any do power_on", lambda: both(lambda it: told(it, "power_is_lost.events", "again") == "no disk" and "ListNotGiven" in runs_of(it)["power_is_lost.events"]["broken"])),
     Finding("SeaBIOS never starts a port again that was halted by something else than a failed command",
-            "After a CRC error that stops the port (IFS), memory that is not there (HBFS), a read that is never answered, or a disk that was out for a moment, INT 13h fails after 32 seconds. SeaBIOS clears ST in none of these cases\n"
-            "(section 6.2.2.1), so each later request fails as well, 32 seconds later: one such error and the machine does not boot.",
+            "After a CRC error that stops the port (IFS), memory that is not there (HBFS), a read that is never answered, or a disk that was out for a moment, INT "
+            "13h fails after 32 seconds. SeaBIOS clears ST in none of these cases (section 6.2.2.1), so each later request fails as well, 32 seconds later: one "
+            "such error and the machine does not boot.",
             "on 3rd READ DMA do fatal_crc_error",
-            lambda: all(did("SeaBIOS", it) == firmware.GIVEN_UP for it in ("a CRC error that stops the port", "no memory, HBFS", "a read is never answered", "the disk is pulled out, and is back a second later"))),
+            lambda: all(did("SeaBIOS", it) == firmware.GIVEN_UP for it in HALTING)),
     Finding("SeaBIOS does not boot from a disk that fails once",
             "One error at the first sector, or one IDENTIFY DEVICE that is aborted: SeaBIOS tries neither again, and says `No bootable device.`",
             "on first read sector 0 do fail 40", lambda: did("SeaBIOS", "the first sector can't be read once") == did("SeaBIOS", "IDENTIFY DEVICE is aborted") == firmware.NO_BOOT),
     Finding("GRUB reads nothing any more after one read that failed",
-            "GRUB's own driver (`nativedisk ahci`) stops the port after an error and starts it again, without clearing TFES in PxIS before (section 6.2.2.1, rule `StartWithErrors`). Then it sends the command DEVICE RESET, 08h, which\n"
-            "is for packet devices and which a disk aborts (ACS-3). The port is halted again, and GRUB does not stop it a second time: each later request waits for more than a minute and fails, or the disk is not found.",
+            "GRUB's own driver (`nativedisk ahci`) stops the port after an error and starts it again, without clearing TFES in PxIS before (section 6.2.2.1, rule "
+            "`StartWithErrors`). Then it sends the command DEVICE RESET, 08h, which is for packet devices and which a disk aborts (ACS-3), so that the port is "
+            "halted again. It sends no other command after that: each later request waits for more than a minute and fails, or the disk is not found.",
             "on 120th READ DMA do fail 40", lambda: did("GRUB", "a read fails once") == firmware.GIVEN_UP and "StartWithErrors" in runs_of("GRUB")["a read fails once"]["broken"]),
     Finding("EDK2 and GRUB take a device fault for the end of a read, and EDK2 a disk that is still busy",
-            "The FIS that answers a read has DF without ERR, and no data were moved: EDK2 and GRUB's own driver take the read as done, and SeaBIOS says an error. In the second script the status of the FIS has BSY, so that PxCI still has\n"
-            "the command (section 5.3, RegFIS:Entry): EDK2 takes that read as done, too.",
+            "The FIS that answers a read has DF without ERR, and no data were moved: EDK2 and GRUB's own driver take the read as done, and SeaBIOS says an error. "
+            "In the second script the status of the FIS has BSY, so that PxCI still has the command (section 5.3, RegFIS:Entry): EDK2 takes that read as done, too.",
             "on 120th READ DMA do end 60\non 120th READ DMA do end D0",
             lambda: {did(it, "device fault, DF alone") for it in ("EDK2", "GRUB")} == {did("EDK2", "the disk stays busy after a read")} == {firmware.WRONG}),
     Finding("No firmware looks at PRDBC",
@@ -136,10 +142,10 @@ def section() -> List[str]:
     if not found:
         return []
     lines = ["", "## Steps that are left out, and what comes of it", "",
-             "Counted in the reports of all runs of this page. In brackets is how often; an event that came before the last one was done with counts as one whose steps were left out.", ""]
+             "Counted in the reports of all runs of this page. In brackets is how often; steps that had not come when the next event did count as left out.", ""]
     for name, version in found.items():
         lines += sentences(name, version)
     for it in FINDINGS:
         expect(it.holds(), f"{it.title}: the stored runs don't show it")
-        lines += ["", f"### {it.title}", "", *it.text.split("\n"), "", "```text", it.script, "```"]
+        lines += ["", f"### {it.title}", "", *wrapped(it.text), "", "```text", it.script, "```"]
     return lines

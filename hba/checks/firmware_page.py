@@ -4,7 +4,7 @@ from __future__ import annotations
 from typing import Any, Dict, List
 
 import firmware
-from recovery_page import reports_table
+from recovery_page import reports_table, wrapped
 
 MOST_LINES = 2  # of what a firmware says
 MOST_EVENTS = 3  # that are named beside a rule
@@ -47,15 +47,21 @@ def section() -> List[str]:
     found = firmware.stored()
     if not found["events"]:
         return []
-    lines = ["", "## Firmware under events", "",
-             "SeaBIOS, GRUB's own driver and EDK2's use the disk while an event happens; `hba/drivers --firmware` makes the runs ([firmware.py](../hba/checks/firmware.py)). On SeaBIOS "
-             f"{firmware.MACHINES['SeaBIOS'].title}. On GRUB {firmware.MACHINES['GRUB'].title}. On EDK2 {firmware.MACHINES['EDK2'].title}. The scripts are those for SeaBIOS, "
-             "whose third READ DMA is the one of 64 sectors; for GRUB and EDK2 it is the 120th, in the midst of the first sum, and GRUB's own IDENTIFY DEVICE is the second one. Events of the first "
-             "microsecond come before the reset of the HBA by which SeaBIOS and EDK2 begin; what is done every millisecond is counted each time. Of a read that comes right on EDK2 it isn't told whether EDK2 made it "
-             "once more, or GRUB did.", "",
-             f"\"{firmware.RIGHT}\": all is read and written, and no error is said. \"{firmware.AGAIN}\": an error is said, and the same request comes right when it is made once more. "
-             f"\"{firmware.SAID}\": an error is said, and the request is not made again. \"{firmware.GIVEN_UP}\": the same request fails again, or has no end. \"{firmware.WRONG}\": no error is said, and the data are not the disk's.", "", *events_table(found)]
+    about = (
+        "SeaBIOS, GRUB's own driver and EDK2's use the disk while an event happens; `hba/drivers --firmware` makes the runs ([firmware.py](../hba/checks/firmware.py)). "
+        f"On SeaBIOS {firmware.MACHINES['SeaBIOS'].title}. On GRUB {firmware.MACHINES['GRUB'].title}. On EDK2 {firmware.MACHINES['EDK2'].title}. "
+        "The scripts are those for SeaBIOS, whose third READ DMA is the one of 64 sectors; for GRUB and EDK2 it is the 120th, in the midst of the first sum, and GRUB's own "
+        "IDENTIFY DEVICE is the second one. Events of the first microsecond come before the reset of the HBA by which SeaBIOS and EDK2 begin; what is done every millisecond is "
+        "counted each time. Of a read that comes right on EDK2 it isn't told whether EDK2 made it once more, or GRUB did.",
+        f"\"{firmware.RIGHT}\": all is read and written, and no error is said. \"{firmware.AGAIN}\": an error is said, and the same request comes right when it is made once more. "
+        f"\"{firmware.SAID}\": an error is said, and the request is not made again. \"{firmware.GIVEN_UP}\": the same request fails again, or has no end. "
+        f"\"{firmware.WRONG}\": no error is said, and the data are not the disk's.")
+    lines = ["", "## Firmware under events"]
+    for text in about:
+        lines += ["", *wrapped(text)]
+    lines += ["", *events_table(found)]
     for name in names_of(found):
         runs = {event: came[name] for event, came in found["events"].items() if name in came}
-        lines += ["", f"### What {found['versions'].get(name, name)} does about each event", "", f"[Rules](#rules-that-are-broken) that are broken meanwhile: {broken_of(runs)}.", "", *reports_table({"events": runs})]
+        lines += ["", f"### What {found['versions'].get(name, name)} does about each event", "",
+                  f"[Rules](#rules-that-are-broken) that are broken meanwhile: {broken_of(runs)}.", "", *reports_table({"events": runs})]
     return lines

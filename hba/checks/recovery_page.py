@@ -2,17 +2,24 @@
 from __future__ import annotations
 
 import re
+import textwrap
 from typing import Any, Dict, List, Sequence, Set
 
 import recoveries
 import shipped
 import surviving
 
+WIDE = 158  # columns of a paragraph
 MOST_LINES = 6  # of what a driver writes
 SEEN, LATE, MISSING, CUT = "seen", "out of order", "missing", "not before the next event"
 FATES = ("answered", "again", "failed", "lost", "twice", "other", "carried")
 Came = Dict[str, Any]  # what came of a run
 Reports = List[Dict[str, Any]]
+
+
+def wrapped(text: str) -> List[str]:
+    """The lines of a paragraph."""
+    return textwrap.wrap(text, WIDE, break_long_words=False, break_on_hyphens=False)
 
 
 def steps_of(reports: Reports) -> str:
@@ -74,7 +81,8 @@ def failures(all_of: Dict[str, Came], name: str) -> List[str]:
 def runs_table(all_of: Dict[str, Came]) -> List[str]:
     """What came of the requests under each event, and what the first kernel writes."""
     first = next(iter(all_of.values()))
-    lines = ["| Script | " + " | ".join(f"Fail on {found['version']}" for found in all_of.values()) + f" | First lines of {first['version']} |", "|---" * (2 + len(all_of)) + "|"]
+    heads = ["Script", *(f"Fail on {found['version']}" for found in all_of.values()), f"First lines of {first['version']}"]
+    lines = ["| " + " | ".join(heads) + " |", "|---" * len(heads) + "|"]
     for name in names_of(all_of, surviving.EVENTS):
         lines.append(f"| `{name}` | " + " | ".join(failures(all_of, name)) + f" | {said_of(first['events'][name]) if name in first['events'] else ''} |")
     return lines
@@ -98,8 +106,9 @@ def did_of(came: Came) -> List[str]:
 def scripts_table(all_of: Dict[str, Came]) -> List[str]:
     """What came of the requests under each script that is shipped, and what the first kernel did."""
     first = next(iter(all_of.values()))
-    heads = ["Script", *(f"Fail on {found['version']}" for found in all_of.values()), "Events with steps of the standard (times): what the first kernel did", "Besides", "Commands that were outstanding"]
-    lines = ["| " + " | ".join([*heads, f"First lines of {first['version']}"]) + " |", "|---" * (1 + len(heads)) + "|"]
+    heads = ["Script", *(f"Fail on {found['version']}" for found in all_of.values()), f"Events with steps of the standard (times): what {first['version']} did", "Besides",
+             "Commands that were outstanding", f"First lines of {first['version']}"]
+    lines = ["| " + " | ".join(heads) + " |", "|---" * len(heads) + "|"]
     for name in names_of(all_of, shipped.EVENTS):
         did = [*did_of(first["events"][name]), said_of(first["events"][name])] if name in first["events"] else [""] * 4
         lines.append("| " + " | ".join([f"[`{name}`](../host/events/{name})", *failures(all_of, name), *did]) + " |")
@@ -132,8 +141,8 @@ def result_of(came: Came) -> str:
     if came["hangs"] or not found:
         return failed_of(came)
     errors = int(found[2])
-    return ("no request fails" if errors == 0 else "one request fails" if errors == 1 else "some requests fail") + (f", {found[3]} are read wrong" if found[3] != "0" else "") \
-        + (", and the disk is gone" if came["again"] == "no disk" else "")
+    failed = "no request fails" if errors == 0 else "one request fails" if errors == 1 else "some requests fail"
+    return failed + (f", {found[3]} are read wrong" if found[3] != "0" else "") + (", and the disk is gone" if came["again"] == "no disk" else "")
 
 
 def left_out(came: Came) -> Dict[str, Set[str]]:
@@ -153,7 +162,8 @@ def differences(first: Came, second: Came) -> List[str]:
     for name in [it for it in names_of({"": first}, [*surviving.EVENTS, *shipped.EVENTS]) if it in second["events"]]:
         before, after = first["events"][name], second["events"][name]
         parts = [f"{result_of(before)} on {first['version']}, and {result_of(after)} on {second['version']}"] if result_of(before) != result_of(after) else []
-        parts += [f"{first['version']} breaks {', '.join(before['broken']) or 'no rule'}, and {second['version']} {', '.join(after['broken']) or 'none'}"] if before["broken"] != after["broken"] else []
+        broken = [", ".join(it["broken"]) or "no rule" for it in (before, after)]
+        parts += [f"{first['version']} breaks {broken[0]}, and {second['version']} {broken[1]}"] if broken[0] != broken[1] else []
         lines += [f"- `{name}`: {'; '.join(parts)}."] if parts else []
         of_first, of_second = left_out(before), left_out(after)
         for event in sorted(of_first.keys() | of_second.keys()):
@@ -185,15 +195,16 @@ def section() -> List[str]:
     all_of = {folder: found for folder, found in ((it, recoveries.stored(it)) for it in surviving.KERNELS) if found["events"]}
     if not all_of:
         return []
-    lines = ["", "## Recovery", "",
-             "Linux makes 2,500 requests in a queue of 32 commands while a [script](../host/README.md#scripts-of-events) of [surviving.py](../hba/checks/surviving.py) goes on; each read is compared, and at the end each block is",
-             f"read once more. {alone_of(all_of)} No write that was answered was lost. \"Read wrong\" is a read that Linux took as done and whose data are not the disk's: it looks neither at DF",
-             "without ERR nor at PRDBC. No other data were wrong. `hba/drivers --recovery` makes the runs.", "", *runs_table(all_of)]
+    lines = ["", "## Recovery", "", *wrapped(
+        "Linux makes 2,500 requests in a queue of 32 commands while a [script](../host/README.md#scripts-of-events) of [surviving.py](../hba/checks/surviving.py) goes on; each read is "
+        f"compared, and at the end each block is read once more. {alone_of(all_of)} No write that was answered was lost. \"Read wrong\" is a read that Linux took as done and whose data "
+        "are not the disk's: it looks neither at DF without ERR nor at PRDBC. No other data were wrong. `hba/drivers --recovery` makes the runs."), "", *runs_table(all_of)]
     scripts = scripts_table(all_of)
     if len(scripts) > 2:
-        lines += ["", "### The scripts that are shipped", "",
-                  "The same under each script of [host/events](../host/events/README.md). [shipped.py](../hba/checks/shipped.py) has the numbers of requests, and what of a script is another one here: losses of power come with the 1,000th",
-                  "command, a disk is plugged in after Linux has looked for one, and a second COMRESET is brought about.", "", *scripts]
+        lines += ["", "### The scripts that are shipped", "", *wrapped(
+            "The same under each script of [host/events](../host/events/README.md). [shipped.py](../hba/checks/shipped.py) has the numbers of requests, and what of a script is another "
+            "one here: losses of power come with the 1,000th command, a disk is plugged in after Linux has looked for one, a second COMRESET is brought about, Linux reads the log of "
+            "one script by READ LOG EXT, and the flush that is aborted is FLUSH CACHE."), "", *scripts]
     for found in all_of.values():
         lines += ["", f"### What {found['version']} does about each event", "",
                   "By the [reports of recovery](../hba/README.md#reports-of-recovery): \"all in order\" are the steps of the section of AHCI 1.3.1, \"-\" is an event that asks for none. "

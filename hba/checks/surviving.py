@@ -179,7 +179,8 @@ def look(event: Event, folder: str, came: Dict[str, Any]) -> str:
     told = came["told"]
     where = f"{event.name} on {KERNELS[folder]}"
     if event.errors == UNFOUND:
-        expect(told.get("failed:") == UNFOUND and "end" in told and came["happened"] and not came["bad"] and came["status"] == 0, f"{where}: {told}, {came['bad']}, status {came['status']}")
+        is_right = told.get("failed:") == UNFOUND and "end" in told and came["happened"] and not came["bad"] and came["status"] == 0
+        expect(is_right, f"{where}: {told}, {came['bad']}, status {came['status']}")
         expect(not event.is_quiet or not came["says"], f"{where}: Linux writes {came['says'][:6]}")
         return UNFOUND
     expect(not came["hangs"] and "mixed" in told and "end" in told, f"{where}: it hangs; the last lines:\n{came['end']}")
