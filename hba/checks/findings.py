@@ -106,6 +106,10 @@ FINDINGS: Sequence[Finding] = (
             "in the received FIS nor at PRDBC (section 4.2.2): the caller gets what was in its buffer before.",
             "on 20th read do end 60\non every read sector 1000 do end 50 repeat 3",
             lambda: both(lambda it: wrong(it, "a_fault_without_an_error.events") == 1 and wrong(it, "a_short_read.events") == 3)),
+    Finding("Linux repeats a flush that failed, and reports the second one alone",
+            "The first flush is aborted. Linux sends it again, which succeeds, and fsync() returns 0: nobody is told that what was written before the first one may "
+            "not be on the medium (ACS-3, FLUSH CACHE).",
+            "on first FLUSH CACHE do fail 04", lambda: both(lambda it: told(it, "an_aborted_flush.events", "flush") == "right" and bool(runs_of(it)["an_aborted_flush.events"]["recoveries"]))),
     Finding("Linux starts a port that has lost its registers with a command list at address 0",
             "The controller is as after power-on in the midst of requests, as after a reset that nobody told Linux of. After a COMRESET Linux sets ST, and neither "
             "FRE nor PxCLB and PxFB before it (section 10.1.2). The controller then takes headers of commands from address 0 of memory, as the rules "
