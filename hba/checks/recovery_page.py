@@ -185,8 +185,9 @@ def differences_section(all_of: Dict[str, Came]) -> List[str]:
 
 def alone_of(all_of: Dict[str, Came]) -> str:
     """Who had the controller before Linux."""
-    first = sum("firmware" not in came for found in all_of.values() for came in found["events"].values())
-    before = f" In {first} runs, which are older, SeaBIOS uses the disk before Linux does, and what it breaks is listed with them: `ReceivingClearedWhileStarted`." if first else ""
+    older = [came for found in all_of.values() for came in found["events"].values() if "firmware" not in came]
+    before = f" In {len(older)} runs, which are older, SeaBIOS uses the disk before Linux does." if older else ""
+    before += " Its breach of `ReceivingClearedWhileStarted` is listed with them." if any("ReceivingClearedWhileStarted" in came["broken"] for came in older) else ""
     return f"It has the controller for itself, on qboot.{before}"
 
 
