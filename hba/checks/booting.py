@@ -64,10 +64,10 @@ def grub(room: str, firmware: Sequence[str], platform: str, root: str) -> str:
     return "sum of 4 MiB right, save_env in the image; commands " + counted(guest.codes())
 
 
-def uefi(room: str) -> List[str]:
+def uefi(room: str, folder: str = "/usr/share/OVMF") -> List[str]:
     """The arguments of a machine with EDK2."""
-    code, variables = file_of("/usr/share/OVMF/OVMF_CODE_4M.fd", "ovmf"), os.path.join(room, "variables.fd")
-    shutil.copy("/usr/share/OVMF/OVMF_VARS_4M.fd", variables)
+    code, variables = file_of(f"{folder}/OVMF_CODE_4M.fd", "ovmf"), os.path.join(room, "variables.fd")
+    shutil.copy(f"{folder}/OVMF_VARS_4M.fd", variables)
     return ["-drive", f"if=pflash,unit=0,format=raw,readonly=on,file={code}", "-drive", f"if=pflash,unit=1,format=raw,file={variables}"]
 
 

@@ -96,18 +96,18 @@ def pattern(count: int, seed: str) -> bytes:
 # ---- a boot sector ----
 
 
-def assembled(room: str, name: str) -> str:
+def assembled(room: str, name: str, *more: str) -> str:
     """The program of guests/NAME.S, as the BIOS loads it."""
     objects, boot = os.path.join(room, f"{name}.o"), os.path.join(room, f"{name}.bin")
-    ran([program("as", "binutils"), "--32", "-o", objects, os.path.join(GUESTS, f"{name}.S")])
+    ran([program("as", "binutils"), "--32", *more, "-o", objects, os.path.join(GUESTS, f"{name}.S")])
     ran([program("ld", "binutils"), "-m", "elf_i386", "-Ttext", "0x7c00", "--oformat", "binary", "-o", boot, objects])
     return boot
 
 
-def sector_image(room: str) -> Tuple[str, int]:
+def sector_image(room: str, tries: int = 1) -> Tuple[str, int]:
     """An image of 8 MiB that begins with guests/sector.S, and the sum of the bytes that it adds up, below 2^16."""
     image = bytearray(8 << 20)
-    image[:SECTOR] = read(assembled(room, "sector"))[:SECTOR]
+    image[:SECTOR] = read(assembled(room, "sector", "--defsym", f"TRIES={tries}"))[:SECTOR]
     image[SECTOR:2 * SECTOR] = b"sector 1\n".ljust(SECTOR, b"\0")
     summed = pattern(64 * SECTOR, "sum")
     image[64 * SECTOR:128 * SECTOR] = summed

@@ -78,7 +78,7 @@ CASES: Sequence[Case] = (
     ("on 2nd write PxSERR do unknown_fis", [("knock", "PxIS 00000010, PxSERR 02000000, DET 3, 0 messages"), ("read", FINE)]),
     ("on 20th READ FPDMA QUEUED do notification then spurious_bits then unknown_fis", [("full", "0 outstanding, done"), ("read", FINE)]),
     # the signature, log 10h, slow bits
-    ("on first read do hold_signature 1s", [("read", FINE), ("reset", "late"), ("reset", "at once"), ("read", FINE)]),
+    ("on first read do hold_signature 1s", [("read", FINE), ("patient", "late"), ("reset", "at once"), ("read", FINE)]),
     ("on first read do lose_signature then lose_signature", [("read", FINE), ("reset", "BSY stays"), ("reset", "BSY stays"), ("reset", "at once"), ("read", FINE)]),
     *((f"on 2nd read do fail 40 then wrong_log_{name}", [("read", FINE), ("read", "error 40, 1 messages"), ("read_log", how), ("read", FINE), ("read_log", "NQ, sum right")])
       for name, how in (("tag", "tag 4, sum right"), ("nq", "NQ, sum right"), ("sum", "tag 3, sum wrong"))),

@@ -5,6 +5,7 @@ from __future__ import annotations
 
 import functools
 import json
+import math
 import os
 import re
 from typing import Any, Dict, List, NamedTuple, Sequence, Tuple
@@ -22,11 +23,15 @@ SECONDS = 400  # of an idle machine
 KERNELS = {"kernel": "Linux", "current": "The current Linux"}  # by the folder of out/
 REQUESTS = r"requests (\d+) compared (\d+) errors (\d+) wrong (\d+)(?: kept (\d+) lost (\d+))?"
 NONE, ONE, SOME, MANY = "none", "one", "some", "many"  # how many requests fail: MANY is at least a tenth of them
+UNFOUND = "there is no disk"  # Linux finds none, so no request is made
 BAD = r"(?:WARNING|BUG): |Call Trace|blocked for more than|Oops|general protection|Kernel panic"
 # Linux's lines about the disk; numbers that differ from run to run are left out
 ABOUT = r"^(?:\[ *[\d.]+\] )?((?:ata1(?:\.00)?|ahci 0000:00:..\.0|sd \d:0:0:0|scsi \d:0:0:0|I/O error|critical \w+ error|blk_update_request|Buffer I/O error).*)$"
 RESET = r"ata1: hard resetting link"
 FAILED = r"ata1: COMRESET failed \(errno=-16\)"
+
+
+BOTH = ("kernel", "current")
 
 
 class Event(NamedTuple):
@@ -39,7 +44,12 @@ class Event(NamedTuple):
     is_quiet: bool = False  # Linux says nothing of it
     wrong: int = 0          # so many reads give the user other data than the disk's: Linux takes as done what isn't
     is_alone: bool = False  # without a queue: `end` is about commands that aren't queued
-    kernels: Sequence[str] = ("kernel",)  # those that are tried
+    kernels: Sequence[str] = BOTH  # those that are tried
+    options: Sequence[str] = ()  # of the program
+    pick: str = "random"         # its option
+    words: str = ""              # of the kernel's command line
+    told: Sequence[Tuple[str, str]] = ()  # what else the guest has to tell
+    instead: Sequence[Tuple[str, str]] = ()  # parts of a shipped script, and what stands in their place here; "" is its end, `5*s` five seconds of an idle machine
 
 
 def at(event: str, place: str = "on 1000th any") -> str:
@@ -54,11 +64,10 @@ def each(events: Sequence[str]) -> str:
 ALONE = ["--cap", "sncq=0"]
 USUAL_ALONE = (r"ahci 0000:00:..\.0: flags: .*", r"ata1\.00: \d+ sectors, multi 0: LBA48 NCQ \(depth 0/32\)")
 ERRORS = ("decode", "crc", "handshake", "sequence", "transport")
-BOTH = ("kernel", "current")
 ROW = ("fail 40", "no_memory", "fatal_crc_error", "lose_link then wait 100ms then find_link", "unplug then wait 2s then plug", "slow_cr 300ms then fatal_handshake_error")
 EVENTS: Sequence[Event] = (
-    Event("one after the other", each(ROW).replace("any do fail", "read do fail"), ONE, [RESET, r"host bus error", r"interface fatal error"], kernels=BOTH),
-    Event("stall", at("stall"), NONE, [RESET], kernels=BOTH),
+    Event("one after the other", each(ROW).replace("any do fail", "read do fail"), ONE, [RESET, r"host bus error", r"interface fatal error"]),
+    Event("stall", at("stall"), NONE, [RESET]),
     Event("slow, late_interrupt, send_interrupt, find_link", each(("slow 300ms", "late_interrupt 100ms", "send_interrupt", "find_link")), NONE, is_quiet=True),
     Event("fail 40, a read", at("fail 40", "on 700th read"), ONE, [r"error: \{ UNC \}"]),
     Event("fail 40, a write", at("fail 40", "on 200th write"), ONE, [r"error: \{ UNC \}"]),
@@ -66,18 +75,18 @@ EVENTS: Sequence[Event] = (
     Event("fail 04", at("fail 04"), NONE, [r"error: \{ ABRT \}"]),
     Event("fail 84", at("fail 84"), NONE, [r"error: \{ ICRC ABRT \}"]),
     Event("no_memory", at("no_memory"), NONE, [RESET, r"host bus error"]),
-    Event("lose_interrupt", at("lose_interrupt"), NONE, kernels=BOTH),
+    Event("lose_interrupt", at("lose_interrupt"), NONE),
     Event("power_on", at("power_on"), MANY, [RESET], "no disk"),
     Event("lose_link", at("lose_link"), NONE, [RESET]),
     Event("lose_link, find_link", at("lose_link then wait 100ms then find_link"), NONE, [RESET]),
     Event("unplug", at("unplug"), MANY, [r"ata1\.00: disable"], "no disk"),
     Event("unplug, plug", at("unplug then wait 2s then plug"), NONE, [RESET]),
-    Event("crc_error and the four like it", each([f"{it}_error" for it in ERRORS]), NONE, is_quiet=True, kernels=BOTH),
+    Event("crc_error and the four like it", each([f"{it}_error" for it in ERRORS]), NONE, is_quiet=True),
     Event("fatal_crc_error and the four like it", each([f"fatal_{it}_error" for it in ERRORS]), NONE, [RESET, r"interface fatal error"]),
     Event("hold_signature", at("hold_signature 3s then fatal_crc_error"), NONE, [RESET]),
     Event("lose_signature", at("lose_signature then fatal_crc_error"), NONE, [RESET, FAILED]),
     Event("wrong_log_tag", at("fail 40 then wrong_log_tag", "on 700th read"), ONE),
-    Event("wrong_log_nq", at("fail 40 then wrong_log_nq", "on 700th read"), NONE, [r"failed to read log page 10h"]),
+    Event("wrong_log_nq", at("fail 40 then wrong_log_nq", "on 700th read"), NONE, [r"failed to read log page 10h"], kernels=("kernel",)),
     # it takes the error as that of each command that is outstanding
     Event("wrong_log_nq", at("fail 40 then wrong_log_nq", "on 700th read"), SOME, [r"failed to read log page 10h"], kernels=("current",)),
     Event("wrong_log_sum", at("fail 40 then wrong_log_sum", "on 700th read"), ONE),
@@ -99,12 +108,17 @@ EVENTS: Sequence[Event] = (
 QUICK = ("fail 40, a read", "unplug, plug", "fatal_crc_error and the four like it")  # those of `make check`
 
 
-def text_of(script: str) -> str:
-    """A script, or one that is shipped."""
-    if not script.endswith(".events"):
-        return f"{script}\n"
-    with open(os.path.join(SHIPPED, script), encoding="utf-8") as file:
-        return file.read()
+def text_of(event: Event) -> str:
+    """An event's script, or one that is shipped."""
+    if not event.script.endswith(".events"):
+        return f"{event.script}\n"
+    with open(os.path.join(SHIPPED, event.script), encoding="utf-8") as file:
+        text = file.read()
+    for part, other in event.instead:
+        expect(part in text, f"{event.script} has no {part}")
+        other = re.sub(r"(\d+)\*s", lambda it: f"{math.ceil(int(it[1]) * pace.times(True))}s", other)
+        text = text.replace(part, other) if part else text + other + "\n"
+    return text
 
 
 # what differs from run to run in Linux's lines
@@ -129,9 +143,11 @@ def outcome(room: str, folder: str, event: Event) -> Dict[str, Any]:
     """A run of guests/survive.sh while an event's script goes on: what came of the requests, what Linux wrote, and what the judge reports."""
     path, found = os.path.join(room, "it.events"), os.path.join(room, "judged.json")
     with open(path, "w", encoding="utf-8") as file:
-        file.write(text_of(event.script))
+        file.write(text_of(event))
     image = booting.numbered(room)
-    guest = Guest(room, ["--image", image, "--script", path, "--json", found, "--delay", "2000", "--pick", "random", *(ALONE if event.is_alone else [])], linux(room, "survive", folder=folder), log=False)
+    options = ["--image", image, "--script", path, "--json", found, "--delay", "2000", "--pick", event.pick, *(ALONE if event.is_alone else []), *event.options]
+    qboot = images.file_of("/usr/share/qemu/qboot.rom", "qemu-system-data")  # no driver for disks: Linux has the controller for itself
+    guest = Guest(room, options, [*linux(room, "survive", folder=folder, more=event.words), "-bios", qboot], log=False)
     hangs = not pace.ended(guest.process, SECONDS)
     if hangs:
         guest.kill()
@@ -162,6 +178,11 @@ def look(event: Event, folder: str, came: Dict[str, Any]) -> str:
     """Compares what came with what is written down."""
     told = came["told"]
     where = f"{event.name} on {KERNELS[folder]}"
+    if event.errors == UNFOUND:
+        is_right = told.get("failed:") == UNFOUND and "end" in told and came["happened"] and not came["bad"] and came["status"] == 0
+        expect(is_right, f"{where}: {told}, {came['bad']}, status {came['status']}")
+        expect(not event.is_quiet or not came["says"], f"{where}: Linux writes {came['says'][:6]}")
+        return UNFOUND
     expect(not came["hangs"] and "mixed" in told and "end" in told, f"{where}: it hangs; the last lines:\n{came['end']}")
     expect(came["happened"], f"{where}: the event never happened")
     expect(came["status"] in (0, BROKE_A_RULE), f"{where}: status {came['status']}")
@@ -169,6 +190,7 @@ def look(event: Event, folder: str, came: Dict[str, Any]) -> str:
     expect(came["same"], f"{where}: the image is not the disk that Linux read last")
     errors, again = class_of(told["mixed"], event.wrong), class_of(told["again"])
     expect((errors, again) == (event.errors, event.again), f"{where}: {errors} of the requests fail, and {again} later, not {event.errors} and {event.again}: {told['mixed']}; {told['again']}; {came['says'][:12]}")
+    expect(all(told.get(name) == text for name, text in event.told), f"{where}: the guest tells {told}, and not {event.told}")
     missing = [it for it in event.says if not any(re.search(it, line) for line in came["says"])]
     expect(not missing, f"{where}: Linux does not write {missing}, but {came['says'][:12]}")
     expect(not event.is_quiet or not came["says"], f"{where}: Linux writes {came['says'][:6]}")

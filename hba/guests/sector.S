@@ -1,6 +1,9 @@
 /* A boot sector that says on the first serial port what INT 13h does on the disk that it came from: it reads sector 1, adds up the bytes of
-   sectors 64 to 127, writes sectors 200 and 201, and reads them again. */
+   sectors 64 to 127, writes sectors 200 and 201, and reads them again. With the symbol TRIES it calls INT 13h so often until there is no error. */
 .code16
+.ifndef TRIES
+.set TRIES, 1
+.endif
 .globl _start
 _start:
     xor %ax, %ax
@@ -59,19 +62,29 @@ fill:
     rep stosb
     ret
 
-/* Calls INT 13h with AX and the packet; an error ends all. */
+/* Calls INT 13h with AX and the packet, which an error changes; an error ends all, or the last try does. */
 disk:
+    movb $TRIES, left
+    mov packet + 2, %cx
+again:
+    mov %cx, packet + 2
+    pusha
     mov drive, %dl
     mov $packet, %si
     int $0x13
     jc failed
+    popa
     ret
 failed:
     mov %ax, %bx
     mov $error, %si
     call print
     call print_word
-    jmp stop
+    popa
+    decb left
+    jnz again
+    mov $given, %si
+    jmp say
 
 /* Prints BX in four hexadecimal digits, and a line feed. */
 print_word:
@@ -116,7 +129,13 @@ sum:   .asciz "sum "
 same:  .asciz "same\nend\n"
 other: .asciz "other\nend\n"
 error: .asciz "INT 13h failed: AX "
+.if TRIES > 1
+given: .asciz "given up\nend\n"
+.else
+given: .asciz ""
+.endif
 drive: .byte 0
+left:  .byte 0
 .balign 4
 packet:
     .byte 16, 0
