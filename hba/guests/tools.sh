@@ -8,6 +8,8 @@ run() {
     name=$1
     shift
     echo "TOOL $name $*"
+    # a shell of busybox may prefer its own program of that name
+    [ ! -x "/sbin/$1" ] || { tool=/sbin/$1 && shift && set -- "$tool" "$@"; }
     "$@" > /tmp/said 2>&1
     status=$?
     sed 's/^/| /' /tmp/said
