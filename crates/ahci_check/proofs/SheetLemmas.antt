@@ -8,7 +8,7 @@ use Rattle.ahci_replay.specs.Transcript.{Sends, WritesPart}
 use Rattle.streams.proofs.ReadingLemmas.{first_map, first_none}
 use Rattle.streams.specs.Reading as reading
 use Rattle.streams.specs.Reading.{Comes, MayEnd, ReadsAll, ReadsAs, Step, StopsReading, Taken, TakenFirst, last_by, last_of}
-use Rattle.streams.specs.Unread.{Begins, MayFail, found_of, unfinished, whole, with_feeds}
+use Rattle.streams.specs.Unread.{Begins, MayFail, ReadsNoMore, found_of, unfinished, whole, with_feeds}
 use Rattle.streams.specs.declared.stopped.Stopped.{Stopped}
 use Rattle.streams.specs.declared.stopped.Stopped.TheVariants as stopped
 use Rattle.ahci_check.specs.Faults.{ReadsTo, WritesTo, fault_of, is_of_output}
@@ -193,13 +193,13 @@ ends_with s rest (inl long) = subst (λ k. Comes s rest (last_by k rest)) (sym l
 ends_with s rest (inr end) = subst (λ k. Comes s rest (last_by k rest)) (sym end.1) (inr (end.0, end.1, refl))
 
 -- the text of a whole input is written in part
-pub all_part_checked : {S : Type 0} (f : S → Stand) (r s e d : Known) (a b : S) → IsNew (f a) → ReadsAll (Goes f) r s a b → WritesPart (f b).contents d (f b).desk.waiting
-    → EndsCheck (f a).desk.form (f a).desk.judge r e (f a).contents d Write
-all_part_checked f r s e d a b new reads part =
+pub all_part_checked : {S : Type 0} (f : S → Stand) (r s d : Known) (a b : S) → IsNew (f a) → ReadsAll (Goes f) r s a b → WritesPart (f b).contents d (f b).desk.waiting
+    → EndsCheck (f a).desk.form (f a).desk.judge r s (f a).contents d Write
+all_part_checked f r s d a b new reads part =
     first_judged f _ _ r a new
     (λ lines remaining rest to so_far h.
     let last = found_told (f a) (f to) (f b) (f a).desk.form (f a).desk.judge lines (last_of rest) so_far h.2 in
-    inr (last_of rest, subst (λ k. Comes k rest (last_of rest)) (sym h.0) (ends_with s rest h.1), sent_part (f a).contents (f b).contents d _ (f b).desk.waiting last.sends part)) reads
+    (inl h.0, inr (last_of rest, subst (λ k. Comes k rest (last_of rest)) (sym h.0) (ends_with s rest h.1), sent_part (f a).contents (f b).contents d _ (f b).desk.waiting last.sends part))) reads
 
 -- ---- a fault
 
@@ -208,7 +208,7 @@ nothing : (r : Known) (Q : Lines → Known → List ℕ → Type 0) → Q [] r [
 nothing r Q holds = record { lines = []; rest = []; remaining = r; own = no_line; consumed = Consumes-nil r; holds = holds }
 
 pub nothing_checked : (form : Form) (judge : Judge) (r c : Known) → EndsCheck form judge r r c c OutOfMemory
-nothing_checked form judge r c = nothing r _ (Appends-nil c)
+nothing_checked form judge r c = nothing r _ (refl, Appends-nil c)
 
 -- nothing was told or written since
 abbrev Stays : Stand → Stand → Type 0
@@ -228,24 +228,31 @@ stays_part p q z d sheet told same part =
 -- why a check ends after lines that were judged
 abbrev Why : CheckFault → Known → Lines → Known → List ℕ → Type 0
 Why Read s lines remaining rest = (found_of rest ≡ unfinished) × MayFail (length (with_feeds lines ++ rest)) remaining s
-Why OutOfMemory s lines remaining rest = Unit {0}
+Why OutOfMemory s lines remaining rest = remaining ≡ s
 Why Write s lines remaining rest = ⊥
+
+-- and nothing more is read
+no_more : (fault : CheckFault) (s : Known) (lines : Lines) (remaining : Known) (rest : List ℕ) → Why fault s lines remaining rest
+    → ReadsNoMore (length (with_feeds lines ++ rest)) rest remaining s
+no_more Read s lines remaining rest h = inr h
+no_more OutOfMemory s lines remaining rest h = inl h
+no_more Write s lines remaining rest h = absurd h
 
 -- a fault but of the output: what was told is as it was
 stopped_before : {S : Type 0} (f : S → Stand) (stop : Stopped CheckFault) (r s : Known) (a b : S) → is_of_output (fault_of stop) ≡ false → StopsReading (Goes f) (Fails f) r s a b stop
     → TakenFirst (Goes f) r a (λ lines remaining rest to. Stays (f to) (f b) × Why (fault_of stop) s lines remaining rest)
 stopped_before f stopped.Read r s a b other h = first_map _ _ r a (λ lines remaining rest to holds. (stays (f to) (f b) (ap f holds.2), (holds.0, holds.1))) h
-stopped_before f (stopped.Taker OutOfMemory) r s a b other h = first_map _ _ r a (λ lines remaining rest to holds. (holds.1.2, tt)) h
+stopped_before f (stopped.Taker OutOfMemory) r s a b other h = first_map _ _ r a (λ lines remaining rest to holds. (holds.1.2, holds.0)) h
 stopped_before f (stopped.Taker Read) r s a b other h = absurd h.holds.1.2
 stopped_before f (stopped.Taker Write) r s a b other h = absurd (cc)
-stopped_before f stopped.OutOfMemory r s a b other h = first_none _ r a (stays (f a) (f b) (ap f h.1), tt)
+stopped_before f stopped.OutOfMemory r s a b other h = first_none _ r a (stays (f a) (f b) (ap f h.1), sym h.0)
 
 ended : (form : Form) (judge : Judge) (fault : CheckFault) (r s c d : Known)
     → Judged r (λ lines remaining rest. Appends c d (sheet_of form judge lines).text × Why fault s lines remaining rest) → EndsCheck form judge r s c d fault
 ended form judge Read r s c d h =
     record { lines = h.lines; rest = h.rest; remaining = h.remaining; own = h.own; consumed = h.consumed; holds = (h.holds.1.0, h.holds.1.1, h.holds.0) }
 ended form judge OutOfMemory r s c d h =
-    record { lines = h.lines; rest = h.rest; remaining = h.remaining; own = h.own; consumed = h.consumed; holds = h.holds.0 }
+    record { lines = h.lines; rest = h.rest; remaining = h.remaining; own = h.own; consumed = h.consumed; holds = (h.holds.1, h.holds.0) }
 ended form judge Write r s c d h = absurd h.holds.1
 
 pub fault_checked : {S : Type 0} (f : S → Stand) (stop : Stopped CheckFault) (r s d : Known) (a b : S) → IsNew (f a) → is_of_output (fault_of stop) ≡ false
@@ -254,10 +261,10 @@ fault_checked f stop r s d a b new other h sent =
     ended (f a).desk.form (f a).desk.judge (fault_of stop) r s (f a).contents d
     (first_judged f _ _ r a new (λ lines remaining rest to so_far holds. (stays_written (f a) (f to) (f b) d _ so_far holds.0 sent, holds.1)) (stopped_before f stop r s a b other h))
 
-pub fault_part_checked : {S : Type 0} (f : S → Stand) (stop : Stopped CheckFault) (r s e d : Known) (a b : S) → IsNew (f a) → is_of_output (fault_of stop) ≡ false
-    → StopsReading (Goes f) (Fails f) r s a b stop → WritesPart (f b).contents d (f b).desk.waiting → EndsCheck (f a).desk.form (f a).desk.judge r e (f a).contents d Write
-fault_part_checked f stop r s e d a b new other h part =
-    first_judged f _ _ r a new (λ lines remaining rest to so_far holds. inl (stays_part (f a) (f to) (f b) d _ so_far holds.0 part)) (stopped_before f stop r s a b other h)
+pub fault_part_checked : {S : Type 0} (f : S → Stand) (stop : Stopped CheckFault) (r s d : Known) (a b : S) → IsNew (f a) → is_of_output (fault_of stop) ≡ false
+    → StopsReading (Goes f) (Fails f) r s a b stop → WritesPart (f b).contents d (f b).desk.waiting → EndsCheck (f a).desk.form (f a).desk.judge r s (f a).contents d Write
+fault_part_checked f stop r s d a b new other h part =
+    first_judged f _ _ r a new (λ lines remaining rest to so_far holds. (no_more (fault_of stop) s lines remaining rest holds.1, inl (stays_part (f a) (f to) (f b) d _ so_far holds.0 part))) (stopped_before f stop r s a b other h)
 
 -- the output has failed on what there is to say of what comes
 next_part : (p q : Stand) (d : Known) (sheet : Sheet) (n : ℕ) (found : Begins) → Told p sheet q → WritesPart q.contents d (with_next (begun q.desk) n found).text
@@ -275,11 +282,13 @@ pub output_failed : {S : Type 0} (f : S → Stand) (stop : Stopped CheckFault) (
 output_failed f (stopped.Taker Write) r s a b new is h =
     first_judged f _ _ r a new
     (λ lines remaining rest to so_far holds.
-    let found = holds.1.0 in
-    inr (
-      found,
-      subst (λ k. Comes k rest found) (sym holds.0) holds.1.1,
-      next_part (f a) (f to) (f b).contents (sheet_of (f a).desk.form (f a).desk.judge lines) (length lines + 1) found so_far holds.1.2.0,
+    let found = holds.1.0 in (
+      inl holds.0,
+      inr (
+        found,
+        subst (λ k. Comes k rest found) (sym holds.0) holds.1.1,
+        next_part (f a) (f to) (f b).contents (sheet_of (f a).desk.form (f a).desk.judge lines) (length lines + 1) found so_far holds.1.2.0,
+      ),
     )) h
 output_failed f (stopped.Taker Read) r s a b new is h = absurd (cc)
 output_failed f (stopped.Taker OutOfMemory) r s a b new is h = absurd (cc)

@@ -4,7 +4,7 @@ use Rattle.std.specs.Io.KnownBytes.{Appends, Consumes}
 use Rattle.streams.specs.Ends.{WrittenSoFar, with_failed_write}
 use Rattle.ahci_replay.specs.Transcript.{Sends, WritesPart}
 use Rattle.streams.specs.Reading.{Comes, MayEnd, last_of}
-use Rattle.streams.specs.Unread.{Begins, MayFail, found_of, line_limit, too_long, unfinished, whole, with_feeds}
+use Rattle.streams.specs.Unread.{Begins, MayFail, ReadsNoMore, found_of, line_limit, too_long, unfinished, whole, with_feeds}
 use Rattle.ahci_script.specs.declared.fault.Fault.TheVariants.{LongLine}
 use Rattle.ahci_check.specs.Json.{complaint_json}
 use Rattle.ahci_check.specs.Judges.{complaint_by, judge_after}
@@ -97,16 +97,16 @@ IsChecked form judge r s c d found =
     Judged r (λ lines remaining rest. (remaining ≡ s) × MayEnd s rest × (found ≡ (with_found form judge lines (last_of rest)).found)
     × Appends c d (with_found form judge lines (last_of rest)).text)
 
--- why it isn't judged to its end: the text of the lines before is written; a failed write leaves a first part of it, and of what
+-- why it isn't judged to its end: the text of the lines before is written, and nothing more is read; a failed write leaves a first part of it, and of what
 -- there is to say of the next line
 abbrev pub EndsCheck : Form → Judge → Option (List ℕ) → Option (List ℕ) → Option (List ℕ) → Option (List ℕ) → CheckFault → Type 0
 EndsCheck form judge r s c d fault.Read =
     Judged r (λ lines remaining rest. (found_of rest ≡ unfinished) × MayFail (length (with_feeds lines ++ rest)) remaining s
     × Appends c d (sheet_of form judge lines).text)
-EndsCheck form judge r s c d fault.OutOfMemory = Judged r (λ lines remaining rest. Appends c d (sheet_of form judge lines).text)
+EndsCheck form judge r s c d fault.OutOfMemory = Judged r (λ lines remaining rest. (remaining ≡ s) × Appends c d (sheet_of form judge lines).text)
 EndsCheck form judge r s c d fault.Write =
-    Judged r (λ lines remaining rest. WritesPart c d (sheet_of form judge lines).text
-    ⊎ ((found : Begins) × Comes remaining rest found × WritesPart c d (with_found form judge lines found).text))
+    Judged r (λ lines remaining rest. ReadsNoMore (length (with_feeds lines ++ rest)) rest remaining s × (WritesPart c d (sheet_of form judge lines).text
+    ⊎ ((found : Begins) × Comes remaining rest found × WritesPart c d (with_found form judge lines found).text)))
 
 -- ---- as the lines come
 

@@ -7,7 +7,7 @@ use Rattle.ahci_draw.specs.Grid.{across, down, grid_text}
 use Rattle.ahci_draw.specs.Lanes.{cells_in, device_text, lane_at, lane_text, lanes_text, name_shape}
 use Rattle.ahci_draw.specs.Lines.{device_place, front_to, is_asked, label_of, lane_place, lines_from, sign_place, title_of}
 use Rattle.ahci_draw.specs.Markup.{Text, at, is_plain, is_sheet_byte}
-use Rattle.ahci_draw.specs.Row.{row_at, row_of, row_text, row_top, rows_in, rows_text}
+use Rattle.ahci_draw.specs.Row.{row_at, row_left, row_of, row_text, row_top, rows_in, rows_text}
 use Rattle.ahci_draw.specs.Signs.{column_head, column_sign, head_at, heads_text, label_at, label_shape, rule_at, rule_shape, sign_at, sign_shape, signs_text}
 use Rattle.ahci_draw.specs.Strip.{bar_shape, begins, colour_of, count_foot, left_of, level_shape, middle_of, run_at, run_length, run_text, runs_text}
 use Rattle.ahci_draw.specs.declared.strip.Strip.{Strip}
@@ -225,7 +225,8 @@ closes_row tags lines row plain =
     let l = closes_lanes tags lines plain in
     let d = closes_device (length tags) lines in record {
       whole = λ opened.
-          number_in_value (row_top (length tags) row) (codes ")'>" ++
+          number_in_value (row_left row) _ (codes "g") opened
+          ∙ number_in_value (row_top (length tags) row) (codes ")'>" ++
           ((grid_text (length tags) (length lines)) ++ ((heads_text (length tags) lines) ++ ((lanes_text tags lines) ++ ((device_text (length tags) lines) ++ codes "</g>"))))) (codes "g") opened
           ∙ past (grid_text (length tags) (length lines)) ((heads_text (length tags) lines) ++ ((lanes_text tags lines) ++ ((device_text (length tags) lines) ++ codes "</g>")))
           (at Text (codes "g" ∷ opened)) (g.whole (codes "g" ∷ opened))

@@ -9,7 +9,7 @@ use Rattle.ahci_draw.specs.Markup.{IsClosed, Text, at, is_plain, reads}
 use Rattle.ahci_draw.specs.Overview.{body_text, counts_shape, counts_text, failure_label, line_at, long_text, mark_at, mark_colour, mark_from, mark_head, mark_shape, mark_top, marks_text, more_text, names_text, overview_of, overview_text, row_name, row_names, strip_text, tenth_at, tenths_text}
 use Rattle.ahci_draw.specs.Picture.{picture_of, picture_with}
 use Rattle.ahci_draw.specs.Places.{count_of, edge, first_of, part_of}
-use Rattle.ahci_draw.specs.Row.{row_top, rows_in, rows_text}
+use Rattle.ahci_draw.specs.Row.{row_left, row_top, rows_in, rows_text}
 use Rattle.ahci_draw.specs.Signs.{label_shape}
 use Rattle.ahci_draw.specs.Text.{numbered}
 use Rattle.ahci_draw.proofs.ClosedLemmas.{Plain, all_at, all_drop, closes_grid, closes_label, closes_rows, if_all, plain_front, plain_numbered}
@@ -116,7 +116,7 @@ closes_row_name : (lanes row : ℕ) → Closes (row_name lanes row)
 unfolding row_name numbered
 closes_row_name lanes row = record {
   whole = λ opened.
-      number_in_value (row_top lanes row + 20) _ (codes "txet") opened ∙ number_in_text (row + 1) (codes "</text>") (codes "txet" ∷ opened);
+      number_in_value (row_left row + 36) _ (codes "txet") opened ∙ number_in_value (row_top lanes row + 20) _ (codes "txet") opened ∙ number_in_text (row + 1) (codes "</text>") (codes "txet" ∷ opened);
 }
 
 closes_row_names : (lanes rows : ℕ) → Closes (row_names lanes rows)

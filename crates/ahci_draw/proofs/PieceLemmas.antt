@@ -31,10 +31,11 @@ pub five : {X : Type 0} (old t1 t2 t3 t4 new a a' b b' c c' d d' e e' : List X) 
 five old t1 t2 t3 t4 new a a' b b' c c' d d' e e' p1 p2 p3 p4 p5 q1 q2 q3 q4 q5 =
     four old t1 t2 t3 new a a' b b' c c' (d' ++ e') (d' ++ e') p1 p2 p3 (two t3 t4 new d d' e e' p4 p5 q4 q5) q1 q2 q3 refl
 
-pub seven : {X : Type 0} (old t1 t2 t3 t4 t5 t6 new a a' b b' c c' d d' e e' f f' g g' : List X) → t1 ≡ old ++ a → t2 ≡ t1 ++ b → t3 ≡ t2 ++ c → t4 ≡ t3 ++ d → t5 ≡ t4 ++ e → t6 ≡ t5 ++ f → new ≡ t6 ++ g
-    → a ≡ a' → b ≡ b' → c ≡ c' → d ≡ d' → e ≡ e' → f ≡ f' → g ≡ g' → new ≡ old ++ (a' ++ (b' ++ (c' ++ (d' ++ (e' ++ (f' ++ g'))))))
-seven old t1 t2 t3 t4 t5 t6 new a a' b b' c c' d d' e e' f f' g g' p1 p2 p3 p4 p5 p6 p7 q1 q2 q3 q4 q5 q6 q7 =
-    four old t1 t2 t3 new a a' b b' c c' (d' ++ (e' ++ (f' ++ g'))) (d' ++ (e' ++ (f' ++ g'))) p1 p2 p3 (four t3 t4 t5 t6 new d d' e e' f f' g g' p4 p5 p6 p7 q4 q5 q6 q7) q1 q2 q3 refl
+pub eight : {X : Type 0} (old t1 t2 t3 t4 t5 t6 t7 new a a' b b' c c' d d' e e' f f' g g' h h' : List X) → t1 ≡ old ++ a → t2 ≡ t1 ++ b → t3 ≡ t2 ++ c → t4 ≡ t3 ++ d → t5 ≡ t4 ++ e → t6 ≡ t5 ++ f
+    → t7 ≡ t6 ++ g → new ≡ t7 ++ h → a ≡ a' → b ≡ b' → c ≡ c' → d ≡ d' → e ≡ e' → f ≡ f' → g ≡ g' → h ≡ h' → new ≡ old ++ (a' ++ (b' ++ (c' ++ (d' ++ (e' ++ (f' ++ (g' ++ h')))))))
+eight old t1 t2 t3 t4 t5 t6 t7 new a a' b b' c c' d d' e e' f f' g g' h h' p1 p2 p3 p4 p5 p6 p7 p8 q1 q2 q3 q4 q5 q6 q7 q8 =
+    four old t1 t2 t3 new a a' b b' c c' (d' ++ (e' ++ (f' ++ (g' ++ h')))) (d' ++ (e' ++ (f' ++ (g' ++ h')))) p1 p2 p3
+    (five t3 t4 t5 t6 t7 new d d' e e' f f' g g' h h' p4 p5 p6 p7 p8 q4 q5 q6 q7 q8) q1 q2 q3 refl
 
 -- where the text so far and the pieces that are left are the whole, they are so after the next one
 pub next_piece : (text new whole : List ℕ) (pieces : List Piece) (i : ℕ) (d : Piece) → i < length pieces → text ++ shape (drop i pieces) ≡ whole

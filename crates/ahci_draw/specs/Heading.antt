@@ -1,13 +1,13 @@
 -- What stands before the rows of a picture. It has no style sheet: each colour stands where it is used, so that nothing of a
 -- picture reaches the rest of a page.
-use Rattle.std.specs.Prelude.{ℕ, ◌+◌, ◌*◌, List, ◌++◌, codes, max, min}
+use Rattle.std.specs.Prelude.{ℕ, ◌+◌, ◌-◌, ◌*◌, List, ◌++◌, codes, max, min}
 use Rattle.ahci_draw.specs.Overview.{overview_height}
-use Rattle.ahci_draw.specs.Row.{row_top, rows_in}
+use Rattle.ahci_draw.specs.Row.{row_height, rows_in, stacks_in}
 use Rattle.ahci_draw.specs.Text.{numbered}
 
 -- how wide the picture of so many columns is
 abbrev pub width_of : ℕ → ℕ
-width_of columns = max (12 * min columns 100 + 80) 640
+width_of columns = max (12 * min columns 100 + 80 + 1280 * (stacks_in columns - 1)) 640
 
 -- the end of the frame's tag, and what colours and signs mean
 abbrev pub key_text : List ℕ
@@ -33,7 +33,7 @@ heading_shape width height columns lanes =
 
 -- how high it is: its heading, its overview and its rows
 abbrev pub height_of : (columns lanes : ℕ) → ℕ
-height_of columns lanes = row_top lanes (rows_in columns) + overview_height columns
+height_of columns lanes = row_height lanes * min (rows_in columns) 48 + 96 + overview_height columns
 
 abbrev pub heading_text : (columns lanes : ℕ) → List ℕ
 heading_text columns lanes = heading_shape (width_of columns) (height_of columns lanes) columns lanes

@@ -6,7 +6,7 @@ use Rattle.ahci_draw.specs.Grid.{grid_text}
 use Rattle.ahci_draw.specs.Lanes.{cells_in}
 use Rattle.ahci_draw.specs.Lines.{label_of, sign_place, title_of}
 use Rattle.ahci_draw.specs.Places.{count_of, edge, first_of, part_of}
-use Rattle.ahci_draw.specs.Row.{row_top, rows_in, rows_text}
+use Rattle.ahci_draw.specs.Row.{row_left, row_top, rows_in, rows_text}
 use Rattle.ahci_draw.specs.Signs.{label_at}
 use Rattle.ahci_draw.specs.Text.{numbered}
 
@@ -94,7 +94,8 @@ overview_text lines = overview_of (cells_in lines sign_place) lines
 
 -- the number of a row, from 1 on
 unfoldable pub row_name : (lanes row : ℕ) → List ℕ
-row_name lanes row = numbered (codes "\n<text x='36' y='") (row_top lanes row + 20) ++ (numbered (codes "'>row ") (row + 1) ++ codes "</text>")
+row_name lanes row =
+    numbered (codes "\n<text x='") (row_left row + 36) ++ (numbered (codes "' y='") (row_top lanes row + 20) ++ (numbered (codes "'>row ") (row + 1) ++ codes "</text>"))
 
 unfoldable pub row_names : (lanes rows : ℕ) → List ℕ
 row_names lanes rows = flat_map (row_name lanes) (range_with_len 0 rows)

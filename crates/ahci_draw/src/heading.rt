@@ -4,7 +4,7 @@ ghost use Rattle.std.specs.Prelude.{◌≡◌, ◌++◌, ◌≤◌, OnOk};
 ghost use Rattle.ahci_draw.specs.Heading.{heading_text, height_of, width_of};
 
 use crate::overview::overview_height;
-use crate::row::{row_top, rows_in};
+use crate::row::{row_height, rows_in, stacks_in};
 use crate::text::{Piece, push_pieces};
 use std::alloc::{AllocError, Allocator};
 use streams::TextBuffer;
@@ -28,7 +28,8 @@ static KEY: &[u8] =
 fn width_of(columns: usize) -> u128
     ensures { result ≡ width_of columns }
 {
-    (12 * (columns.min(100) as u128) + 80).max(640)
+    let more = stacks_in(columns).saturating_sub(1);
+    (12 * (columns.min(100) as u128) + 80 + 1280 * more).max(640)
 }
 
 /// How high the picture of so many columns and lanes is.
@@ -36,7 +37,7 @@ fn height_of(columns: usize, lanes: usize) -> u128
     requires { lanes ≤ 32 }
     ensures { result ≡ height_of columns lanes }
 {
-    row_top(lanes, rows_in(columns)) + overview_height(columns)
+    row_height(lanes) * (rows_in(columns).min(48) as u128) + 96 + overview_height(columns)
 }
 
 /// Appends what stands before the rows, where there are so many columns and lanes.

@@ -8,7 +8,7 @@ use crate::grid::push_grid;
 use crate::lanes::cells_in;
 use crate::marks::{line_at, push_marks};
 use crate::places::{count_of, edge, first_of};
-use crate::row::{push_rows, row_top, rows_in};
+use crate::row::{push_rows, row_left, row_top, rows_in};
 use crate::sheet::{SIGN, label_of, title_of};
 use crate::signs::push_label_at;
 use crate::text::{Piece, push_number, push_pieces};
@@ -140,7 +140,8 @@ fn push_row_name<A: Allocator>(
     requires { lanes ≤ 32 }
     ensures { OnOk result (text.new.bytes ≡ text.old.bytes ++ row_name lanes row) }
 {
-    push_number(text, b"\n<text x='36' y='", row_top(lanes, row) + 20)?;
+    push_number(text, b"\n<text x='", row_left(row) + 36)?;
+    push_number(text, b"' y='", row_top(lanes, row) + 20)?;
     push_number(text, b"'>row ", row as u128 + 1)?;
     text.push(b"</text>")
 }

@@ -1,8 +1,8 @@
-//! A row of a hundred columns.
+//! A row of a hundred columns, and where it is.
 
 ghost use Rattle.std.specs.Prelude.{◌≡◌, ◌++◌, ◌*◌, ◌<◌, ◌≤◌, OnOk, length};
 ghost use Rattle.ahci_draw.specs.Lines.{texts};
-ghost use Rattle.ahci_draw.specs.Row.{row_height, row_of, row_text, row_top, rows_in, rows_text};
+ghost use Rattle.ahci_draw.specs.Row.{row_height, row_left, row_of, row_text, row_top, rows_in, rows_text, stacks_in};
 
 use crate::grid::push_grid;
 use crate::lanes::{push_device, push_lanes};
@@ -18,6 +18,13 @@ pub(crate) fn rows_in(columns: usize) -> usize
     ((columns as u128 + 99) / 100) as usize
 }
 
+/// How many stacks of rows so many columns have.
+pub(crate) fn stacks_in(columns: usize) -> u128
+    ensures { result ≡ stacks_in columns }
+{
+    (rows_in(columns) as u128 + 47) / 48
+}
+
 /// How high a row of so many lanes is.
 pub(crate) fn row_height(lanes: usize) -> u128
     ensures { result ≡ row_height lanes }
@@ -25,12 +32,19 @@ pub(crate) fn row_height(lanes: usize) -> u128
     19 * (lanes as u128) + 56
 }
 
-/// Where a row begins.
+/// Where a row begins, from the top.
 pub(crate) fn row_top(lanes: usize, row: usize) -> u128
     requires { lanes ≤ 32 }
     ensures { result ≡ row_top lanes row }
 {
-    (19 * (lanes as u128) + 56) * (row as u128) + 96
+    (19 * (lanes as u128) + 56) * (row as u128 % 48) + 96
+}
+
+/// Where it begins, from the left.
+pub(crate) fn row_left(row: usize) -> u128
+    ensures { result ≡ row_left row }
+{
+    1280 * (row as u128 / 48)
 }
 
 /// The lines of a row.
@@ -56,11 +70,8 @@ fn push_row<A: Allocator + Copy>(
     requires { length tags.now ≤ 32 }
     ensures { OnOk result (text.new.bytes ≡ text.old.bytes ++ row_text tags.now (texts lines.now) row) }
 {
-    push_number(
-        text,
-        b"\n<g transform='translate(0 ",
-        row_top(tags.len(), row),
-    )?;
+    push_number(text, b"\n<g transform='translate(", row_left(row))?;
+    push_number(text, b" ", row_top(tags.len(), row))?;
     text.push(b")'>")?;
     push_grid(text, tags.len(), lines.len())?;
     push_heads(text, tags.len(), lines)?;

@@ -77,27 +77,27 @@ listed_all f r s a b new h =
     }
 
 -- why a list ends after good lines
-abbrev Why : JobsFault → Lines → Known → List ℕ → Type 0
-Why (Line n) lines remaining rest = (n ≡ length lines + 1) × IsFaulty remaining rest
-Why (Job i) lines remaining rest = (i ≡ length (asked_in lines)) × IsBadNext remaining rest
-Why OutOfMemory lines remaining rest = Unit {0}
-Why fault lines remaining rest = ⊥
+abbrev Why : Known → JobsFault → Lines → Known → List ℕ → Type 0
+Why s (Line n) lines remaining rest = (remaining ≡ s) × ((n ≡ length lines + 1) × IsFaulty remaining rest)
+Why s (Job i) lines remaining rest = (remaining ≡ s) × ((i ≡ length (asked_in lines)) × IsBadNext remaining rest)
+Why s OutOfMemory lines remaining rest = remaining ≡ s
+Why s fault lines remaining rest = ⊥
 
 -- the next line is refused
 refused_line : (fault : JobsFault) (line : List ℕ) (lines : Lines) (s : Known) (rest : List ℕ) → Comes s rest (whole line) → Refuses (asked_in lines) (length lines + 1) (whole line) fault
-    → Why fault lines s rest
-refused_line (Line n) line lines s rest comes h = (h.0, inr (line, comes, h.1))
-refused_line (Job i) line lines s rest comes h = (h.0, (line, comes, h.1))
-refused_line OutOfMemory line lines s rest comes h = tt
+    → Why s fault lines s rest
+refused_line (Line n) line lines s rest comes h = (refl, (h.0, inr (line, comes, h.1)))
+refused_line (Job i) line lines s rest comes h = (refl, (h.0, (line, comes, h.1)))
+refused_line OutOfMemory line lines s rest comes h = refl
 refused_line _ line lines s rest comes h = absurd h
 
 refused : (fault : JobsFault) (found : Begins) (lines : Lines) (s : Known) (rest : List ℕ) → Comes s rest found → Refuses (asked_in lines) (length lines + 1) found fault
-    → Why fault lines s rest
+    → Why s fault lines s rest
 refused fault (whole line) lines s rest comes h = refused_line fault line lines s rest comes h
-refused fault too_long lines s rest comes h = subst (λ f. Why f lines s rest) (sym h) (refl, inl comes)
+refused fault too_long lines s rest comes h = subst (λ f. Why s f lines s rest) (sym h) (refl, (refl, inl comes))
 refused fault unfinished lines s rest comes h = absurd h
 
-told : (fault : JobsFault) (r s : Known) → ListedFirst r (Why fault) → IsListFault r s fault
+told : (fault : JobsFault) (r s : Known) → ListedFirst r (Why s fault) → IsListFault r s fault
 told (Line n) r s h = h
 told (Job i) r s h = h
 told OutOfMemory r s h = h
@@ -105,7 +105,7 @@ told _ r s h = absurd h.holds
 
 -- no memory at the start
 pub nothing_listed : (r : Known) → IsListFault r r OutOfMemory
-nothing_listed r = record { lines = []; rest = []; remaining = r; good = no_line; consumed = Consumes-nil r; holds = tt }
+nothing_listed r = record { lines = []; rest = []; remaining = r; good = no_line; consumed = Consumes-nil r; holds = refl }
 
 -- how a fault ends a list
 pub list_fault : {S : Type 0} (f : S → List Work) (stop : Stopped JobsFault) (r s : Known) (a b : S) → f a ≡ [] → StopsReading (Goes f) (Fails f) r s a b stop
@@ -115,9 +115,9 @@ list_fault f (stopped.Taker fault) r s a b new h =
     told fault r s
     (listed_first f _ _ r a new
     (λ lines remaining rest to asked holds.
-    subst (λ k. Why fault lines k rest) (sym holds.0)
+    subst (λ k. Why s fault lines k rest) (sym holds.0)
     (refused fault holds.1.0 lines s rest holds.1.1 (subst (λ old. Refuses old (length lines + 1) holds.1.0 fault) asked holds.1.2))) h)
-list_fault f stopped.OutOfMemory r s a b new h = nothing_listed r
+list_fault f stopped.OutOfMemory r s a b new h = subst (λ k. IsListFault r k OutOfMemory) (sym h.0) (nothing_listed r)
 
 -- no line is refused with a failed read
 never_read : (found : Begins) (old : List Work) (n : ℕ) → Refuses old n found Read → ⊥

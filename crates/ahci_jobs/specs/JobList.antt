@@ -94,11 +94,11 @@ pub record ListedFirst (remaining_old : Option (List ℕ)) (P : List (List ℕ) 
   pub consumed : Consumes remaining_old remaining (with_feeds lines ++ rest)
   pub holds : P lines remaining rest
 
--- why a job list is not read to its end: the first fault in the order of the input
+-- why a job list is not read to its end: the first fault in the order of the input, behind which nothing more is read
 abbrev pub IsListFault : Option (List ℕ) → Option (List ℕ) → JobsFault → Type 0
-IsListFault r s (fault.Line n) = ListedFirst r (λ lines remaining rest. (n ≡ length lines + 1) × IsFaulty remaining rest)
-IsListFault r s (fault.Job i) = ListedFirst r (λ lines remaining rest. (i ≡ length (asked_in lines)) × IsBadNext remaining rest)
+IsListFault r s (fault.Line n) = ListedFirst r (λ lines remaining rest. (remaining ≡ s) × ((n ≡ length lines + 1) × IsFaulty remaining rest))
+IsListFault r s (fault.Job i) = ListedFirst r (λ lines remaining rest. (remaining ≡ s) × ((i ≡ length (asked_in lines)) × IsBadNext remaining rest))
 IsListFault r s fault.Read =
     ListedFirst r (λ lines remaining rest. (found_of rest ≡ unfinished) × MayFail (length (with_feeds lines ++ rest)) remaining s)
-IsListFault r s fault.OutOfMemory = ListedFirst r (λ _ _ _. Unit {0})
+IsListFault r s fault.OutOfMemory = ListedFirst r (λ _ remaining _. remaining ≡ s)
 IsListFault r s f = ⊥

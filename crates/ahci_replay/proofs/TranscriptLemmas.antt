@@ -6,7 +6,7 @@ use Rattle.std.specs.Io.KnownBytes.{Appends, Consumes, IsAtEnd}
 use Rattle.streams.proofs.ReadingLemmas.{first_map, first_none}
 use Rattle.streams.specs.Reading as reading
 use Rattle.streams.specs.Reading.{Comes, IsNext, MayEnd, ReadsAll, Step, ReadsAs, StopsReading, Taken, TakenFirst, last_by, last_of}
-use Rattle.streams.specs.Unread.{Begins, MayFail, found_of, too_long, unfinished, whole, with_feeds}
+use Rattle.streams.specs.Unread.{Begins, MayFail, ReadsNoMore, found_of, too_long, unfinished, whole, with_feeds}
 use Rattle.streams.specs.declared.stopped.Stopped.{Stopped}
 use Rattle.streams.specs.declared.stopped.Stopped.TheVariants as stopped
 use Rattle.ahci_port.specs.PortView.{PortView}
@@ -161,31 +161,42 @@ all_replayed telling f r s d a b new h sent =
     }
 
 -- the answers to a whole script are written in part
-pub all_part_written : {S : Type 0} (telling : Telling) (f : S → Place) (r s e d : Known) (a b : S) → IsNew (f a) → ReadsAll (Goes telling f) r s a b
-    → WritesPart (f b).contents d (f b).waiting → ReplayedTo telling r e (f a).contents d Write
-all_part_written telling f r s e d a b new h part =
+pub all_part_written : {S : Type 0} (telling : Telling) (f : S → Place) (r s d : Known) (a b : S) → IsNew (f a) → ReadsAll (Goes telling f) r s a b
+    → WritesPart (f b).contents d (f b).waiting → ReplayedTo telling r s (f a).contents d Write
+all_part_written telling f r s d a b new h part =
     first_answered telling f _ _ r a new
     (λ text lines remaining rest to sends holds.
     let last = last_answers telling s rest (length lines + 1) (f to) (f b) holds.1 holds.2 in (
-      text ++ last.2.grown.added,
-      inr (rest, (f b).port, subst (λ k. IsNext k rest rest) (sym holds.0) (inr (last.0, last.1, refl)), rebased (length lines + 1) (f to).port (f b).port rest text _ _ last.2.grown),
-      sent_part (f a).contents (f b).contents d (text ++ last.2.grown.added) (f b).waiting (with_answer (length lines + 1) (f a).contents (f to) (f b) rest text last.2 sends) part,
+      inl holds.0,
+      (
+        text ++ last.2.grown.added,
+        inr (rest, (f b).port, subst (λ k. IsNext k rest rest) (sym holds.0) (inr (last.0, last.1, refl)), rebased (length lines + 1) (f to).port (f b).port rest text _ _ last.2.grown),
+        sent_part (f a).contents (f b).contents d (text ++ last.2.grown.added) (f b).waiting (with_answer (length lines + 1) (f a).contents (f to) (f b) rest text last.2 sends) part,
+      ),
     )) h
 
 -- ---- a fault
 
 -- why a script ends after lines that are answered
 abbrev Why : Known → ScriptFault → List Text → Known → Port → Text → Type 0
-Why s (Line n) lines remaining port rest = (n ≡ length lines + 1) × IsFaulty remaining port rest
+Why s (Line n) lines remaining port rest = (remaining ≡ s) × ((n ≡ length lines + 1) × IsFaulty remaining port rest)
 Why s Read lines remaining port rest = (found_of rest ≡ unfinished) × MayFail (length (with_feeds lines ++ rest)) remaining s
 Why s Write lines remaining port rest = ⊥
-Why s OutOfMemory lines remaining port rest = Unit {0}
+Why s OutOfMemory lines remaining port rest = remaining ≡ s
+
+-- and nothing more is read
+no_more : (s : Known) (fault : ScriptFault) (lines : List Text) (remaining : Known) (port : Port) (rest : Text) → Why s fault lines remaining port rest
+    → ReadsNoMore (length (with_feeds lines ++ rest)) rest remaining s
+no_more s (Line n) lines remaining port rest h = inl h.0
+no_more s Read lines remaining port rest h = inr h
+no_more s Write lines remaining port rest h = absurd h
+no_more s OutOfMemory lines remaining port rest h = inl h
 
 refused : (telling : Telling) (s : Known) (fault : ScriptFault) (found : Begins) (lines : List Text) (rest : Text) (p q : Place) → is_of_output fault ≡ false
     → Comes s rest found → Refuses telling p (length lines + 1) found fault q → Stays p q × Why s fault lines s p.port rest
-refused telling s (Line n) (whole line) lines rest p q other comes h = (h.2, (h.0, inr (line, comes, h.1)))
+refused telling s (Line n) (whole line) lines rest p q other comes h = (h.2, (refl, (h.0, inr (line, comes, h.1))))
 refused telling s (Line n) too_long lines rest p q other comes h =
-    (h.1, (ap number h.0, inl comes))
+    (h.1, (refl, (ap number h.0, inl comes)))
   where
     number : ScriptFault → ℕ
     number (Line k) = k
@@ -195,8 +206,8 @@ refused telling s Read (whole line) lines rest p q other comes h = absurd h
 refused telling s Read too_long lines rest p q other comes h = absurd (cc)
 refused telling s Read unfinished lines rest p q other comes h = absurd (cc)
 refused telling s Write found lines rest p q other comes h = absurd (cc)
-refused telling s OutOfMemory (whole line) lines rest p q other comes h = (h, tt)
-refused telling s OutOfMemory too_long lines rest p q other comes h = (h.1, tt)
+refused telling s OutOfMemory (whole line) lines rest p q other comes h = (h, refl)
+refused telling s OutOfMemory too_long lines rest p q other comes h = (h.1, refl)
 refused telling s OutOfMemory unfinished lines rest p q other comes h = absurd (cc)
 
 -- a fault but of the output: what was answered is as it was
@@ -211,7 +222,7 @@ stopped_before telling f (stopped.Taker fault) r s a b other h =
     let now = refused telling s fault holds.1.0 lines rest (f to) (f b) other holds.1.1 holds.1.2 in
     (now.0, subst (λ k. Why s fault lines k (f to).port rest) (sym holds.0) now.1)) h
 stopped_before telling f stopped.OutOfMemory r s a b other h =
-    first_none _ r a ((ap (λ x. (f x).contents) h.1, ap (λ x. (f x).waiting) h.1, ap (λ x. (f x).failed) h.1), tt)
+    first_none _ r a ((ap (λ x. (f x).contents) h.1, ap (λ x. (f x).waiting) h.1, ap (λ x. (f x).failed) h.1), sym h.0)
 
 -- and then what waits is written
 stays_written : (c d : Known) (text : Text) (p q : Place) → Sends c p.contents text p.waiting → Stays p q → Appends q.contents d q.waiting → Appends c d text
@@ -226,8 +237,7 @@ told : (telling : Telling) (fault : ScriptFault) (r s c d : Known)
     → ReplayedFirst telling r (λ text remaining port rest lines. Appends c d text × Why s fault lines remaining port rest) → ReplayedTo telling r s c d fault
 told telling (Line n) r s c d h = h
 told telling Read r s c d h = h
-told telling OutOfMemory r s c d h =
-    record { lines = h.lines; rest = h.rest; remaining = h.remaining; text = h.text; port = h.port; answered = h.answered; consumed = h.consumed; holds = h.holds.0 }
+told telling OutOfMemory r s c d h = h
 told telling Write r s c d h = absurd h.holds.1
 
 pub fault_written : {S : Type 0} (telling : Telling) (f : S → Place) (stop : Stopped ScriptFault) (r s d : Known) (a b : S) → IsNew (f a)
@@ -239,12 +249,12 @@ fault_written telling f stop r s d a b new other h sent =
     (λ text lines remaining rest to sends holds. (stays_written (f a).contents d text (f to) (f b) sends holds.0 sent, holds.1))
     (stopped_before telling f stop r s a b other h))
 
-pub fault_part_written : {S : Type 0} (telling : Telling) (f : S → Place) (stop : Stopped ScriptFault) (r s e d : Known) (a b : S) → IsNew (f a)
+pub fault_part_written : {S : Type 0} (telling : Telling) (f : S → Place) (stop : Stopped ScriptFault) (r s d : Known) (a b : S) → IsNew (f a)
     → is_of_output (fault_of stop) ≡ false → StopsReading (Goes telling f) (Fails telling f) r s a b stop → WritesPart (f b).contents d (f b).waiting
-    → ReplayedTo telling r e (f a).contents d Write
-fault_part_written telling f stop r s e d a b new other h part =
+    → ReplayedTo telling r s (f a).contents d Write
+fault_part_written telling f stop r s d a b new other h part =
     first_answered telling f _ _ r a new
-    (λ text lines remaining rest to sends holds. (text, inl refl, stays_part (f a).contents d text (f to) (f b) sends holds.0 part))
+    (λ text lines remaining rest to sends holds. (no_more s (fault_of stop) lines remaining (f to).port rest holds.1, (text, inl refl, stays_part (f a).contents d text (f to) (f b) sends holds.0 part)))
     (stopped_before telling f stop r s a b other h)
 
 -- the output has failed on an answer, or on what waited
@@ -267,7 +277,7 @@ pub output_failed : {S : Type 0} (telling : Telling) (f : S → Place) (stop : S
 output_failed telling f (stopped.Taker Write) r s a b new is h =
     first_answered telling f _ _ r a new
     (λ text lines remaining rest to sends holds.
-    cut_off telling (f a).contents s remaining holds.1.0 (length lines + 1) text rest (f to) (f b) holds.0 holds.1.1 holds.1.2 sends) h
+    (inl holds.0, cut_off telling (f a).contents s remaining holds.1.0 (length lines + 1) text rest (f to) (f b) holds.0 holds.1.1 holds.1.2 sends)) h
 output_failed telling f (stopped.Taker (Line n)) r s a b new is h = absurd (cc)
 output_failed telling f (stopped.Taker Read) r s a b new is h = absurd (cc)
 output_failed telling f (stopped.Taker OutOfMemory) r s a b new is h = absurd (cc)

@@ -10,7 +10,7 @@ use Rattle.ahci_script.specs.Lines.{line_of}
 use Rattle.ahci_script.specs.Said.{Said}
 use Rattle.streams.specs.Reading.{IsNext}
 use Rattle.streams.specs.Ends.{ReadSoFar, WrittenSoFar, with_flush}
-use Rattle.streams.specs.Unread.{Begins, FailsReading, MayFail, found_of, too_long, unfinished, whole, with_feeds}
+use Rattle.streams.specs.Unread.{Begins, FailsReading, MayFail, ReadsNoMore, found_of, too_long, unfinished, whole, with_feeds}
 use Rattle.ahci_script.specs.declared.line.ScriptCommand.{ScriptCommand}
 use Rattle.ahci_script.specs.declared.line.Line.{Line}
 use Rattle.ahci_script.specs.declared.line.Line.TheVariants as line
@@ -157,16 +157,17 @@ abbrev pub MayAnswer : Telling → ℕ → Option (List ℕ) → Option PortView
 MayAnswer telling number remaining port rest text all =
     (all ≡ text) ⊎ ((line : List ℕ) × (last_port : Option PortView) × IsNext remaining rest line × Grown telling number port line last_port text all)
 
--- how a fault ends a script: the answers to the lines before it are written. Where a read failed, no whole line is left
+-- how a fault ends a script: the answers to the lines before it are written, and nothing more is read. Where a read failed, no whole line is left
 -- unanswered; a failed write leaves a first part of the answers
 abbrev pub ReplayedTo : Telling → Option (List ℕ) → Option (List ℕ) → Option (List ℕ) → Option (List ℕ) → ScriptFault → Type 0
 ReplayedTo telling r s c d (fault.Line n) =
-    ReplayedFirst telling r (λ text remaining port rest lines. Appends c d text × ((n ≡ length lines + 1) × IsFaulty remaining port rest))
+    ReplayedFirst telling r (λ text remaining port rest lines. Appends c d text × ((remaining ≡ s) × ((n ≡ length lines + 1) × IsFaulty remaining port rest)))
 ReplayedTo telling r s c d fault.Read =
     ReplayedFirst telling r (λ text remaining port rest lines. Appends c d text × ((found_of rest ≡ unfinished) × MayFail (length (with_feeds lines ++ rest)) remaining s))
-ReplayedTo telling r s c d fault.OutOfMemory = ReplayedFirst telling r (λ text remaining port rest lines. Appends c d text)
+ReplayedTo telling r s c d fault.OutOfMemory = ReplayedFirst telling r (λ text remaining port rest lines. Appends c d text × (remaining ≡ s))
 ReplayedTo telling r s c d fault.Write =
-    ReplayedFirst telling r (λ text remaining port rest lines. (all : List ℕ) × MayAnswer telling (length lines + 1) remaining port rest text all × WritesPart c d all)
+    ReplayedFirst telling r (λ text remaining port rest lines. ReadsNoMore (length (with_feeds lines ++ rest)) rest remaining s
+    × ((all : List ℕ) × MayAnswer telling (length lines + 1) remaining port rest text all × WritesPart c d all))
 
 -- ---- how the writes and reads went
 

@@ -117,6 +117,8 @@ enum Row {
     Reset(bool, u8),
     /// The list of the device's data has no room for them.
     Overflows,
+    /// The data have the last byte of an entry with I.
+    Processes,
     Fails(Fatal),
     Event(Happens),
 }
@@ -168,6 +170,7 @@ fn goes(rt: &impl Abort, regs: &mut HbaRegs, number: usize, row: Row) {
         Row::Unsolicited => regs.receive_unsolicited(),
         Row::Fails(fatal) => regs.fail_fatally(fatal),
         Row::Overflows => regs.overflow(),
+        Row::Processes => regs.process_descriptor(),
         Row::Event(event) => take_place(regs, event),
         Row::Signature => {
             assert!(rt; regs.signature_moves());
@@ -322,7 +325,7 @@ fn a_failed_command_halts_the_port_until_st_is_cleared(rt: HostRuntime) {
     plays(&rt, FAILED.as_slice());
 }
 
-static FATAL: [Row; 14] = [
+static FATAL: [Row; 17] = [
     Write(0x130, 0xffff_ffff),
     Write(0x118, 0x0000_0017),
     Row::Fails(Fatal::HostBusFatal),
@@ -337,6 +340,9 @@ static FATAL: [Row; 14] = [
     Row::Overflows,
     Halted(false),
     Read(0x110, 0x3900_0000),
+    Row::Processes,
+    Halted(false),
+    Read(0x110, 0x3900_0020),
 ];
 
 #[test]

@@ -50,6 +50,10 @@ pub record Grows (old new : Unread) (remaining_old remaining_new : Option (List 
 abbrev pub MayFail : ℕ → Option (List ℕ) → Option (List ℕ) → Type 0
 MayFail came remaining_old remaining_new = Keeps remaining_old remaining_new ⊎ (came ≡ 67108864)
 
+-- nothing more was read behind so many bytes, of which these are unread, or a read failed at the end of an input without another whole line
+abbrev pub ReadsNoMore : ℕ → List ℕ → Option (List ℕ) → Option (List ℕ) → Type 0
+ReadsNoMore came unread remaining_old remaining_new = (remaining_old ≡ remaining_new) ⊎ ((found_of unread ≡ unfinished) × MayFail came remaining_old remaining_new)
+
 -- why reading failed, by what the reads told: one of them failed, or a byte came after 67,108,864
 abbrev pub FailsReading : ReadSoFar → Type 0
 FailsReading reads = (reads.failed ≡ true) ⊎ (67108864 < reads.came)

@@ -10,7 +10,7 @@ pub returns-in_err-send-in-Ok-clause-err : goal.returns-in_err-send-in-Ok-clause
 returns-in_err-send-in-Ok-clause-err g c =
     let f = c.in_err-send-in-Ok.field-0.0 in
     if_err_from _ f (EndsCheck _ _ _ _ _ _) c.from_residual.ensures.1
-    (subst (EndsCheck _ _ _ _ _ _) (sym c.in_err-send-in-Ok.ensures.fault) (all_part_checked (λ x. stand (g.W.Write.contents x.1) x.0) (g.R.Read.remaining c.args.reader.now) (g.R.Read.remaining c.take_lines.new.reader) (g.R.Read.remaining c.take_lines.new.reader) _
+    (subst (EndsCheck _ _ _ _ _ _) (sym c.in_err-send-in-Ok.ensures.fault) (all_part_checked (λ x. stand (g.W.Write.contents x.1) x.0) (g.R.Read.remaining c.args.reader.now) (g.R.Read.remaining c.take_lines.new.reader) _
     (c.args.sheet.now, c.args.writer.now) (c.take_lines.new.taker, c.take_lines.new.output) c.requires.new c.in-Ok.ensures.ok c.in_err-send-in-Ok.ensures.part))
 
 pub returns-in_ok-send-in-Ok-clause-ok : goal.returns-in_ok-send-in-Ok-clause-ok
@@ -30,7 +30,7 @@ pub returns-in_err-send-in-Err-clause-err : goal.returns-in_err-send-in-Err-clau
 returns-in_err-send-in-Err-clause-err g c =
     let f = c.in_err-send-in-Err.field-0.0 in
     if_err_from _ f (EndsCheck _ _ _ _ _ _) c.from_residual-in_err-send-in-Err.ensures.1
-    (subst (EndsCheck _ _ _ _ _ _) (sym c.in_err-send-in-Err.ensures.fault) (fault_part_checked (λ x. stand (g.W.Write.contents x.1) x.0) c.in-Err.stopped (g.R.Read.remaining c.args.reader.now) (g.R.Read.remaining c.take_lines.new.reader) (g.R.Read.remaining c.take_lines.new.reader) _
+    (subst (EndsCheck _ _ _ _ _ _) (sym c.in_err-send-in-Err.ensures.fault) (fault_part_checked (λ x. stand (g.W.Write.contents x.1) x.0) c.in-Err.stopped (g.R.Read.remaining c.args.reader.now) (g.R.Read.remaining c.take_lines.new.reader) _
     (c.args.sheet.now, c.args.writer.now) (c.take_lines.new.taker, c.take_lines.new.output) c.requires.new
     (sym (ap is_of_output c.fault_or-fault.ensures) ∙ sym c.is_of_output.ensures ∙ c.if-is_of_output.false) c.in-Err.ensures.err c.in_err-send-in-Err.ensures.part))
 

@@ -11,7 +11,7 @@ use Rattle.ahci_replay.proofs.replaying.replay_script.Goals as goal
 pub returns-in_err-send-in-Ok-clause-err : goal.returns-in_err-send-in-Ok-clause-err
 returns-in_err-send-in-Ok-clause-err g c =
     if_err_from _ Write (ReplayedTo g.T.Teller.telling _ _ _ _) c.from_residual.ensures.1
-    (all_part_written g.T.Teller.telling (λ x. place (g.W.Write.contents x.1) x.0.output x.0.session x.0.writes.failed) (g.R.Read.remaining c.args.reader.now) (g.R.Read.remaining c.take_lines.new.reader) (g.R.Read.remaining c.take_lines.new.reader) _
+    (all_part_written g.T.Teller.telling (λ x. place (g.W.Write.contents x.1) x.0.output x.0.session x.0.writes.failed) (g.R.Read.remaining c.args.reader.now) (g.R.Read.remaining c.take_lines.new.reader) _
     (c.args.script.now, c.args.writer.now) (c.take_lines.new.taker, c.take_lines.new.output) c.requires.new c.in-Ok.ensures.ok c.in_err-send-in-Ok.ensures.part)
 
 pub returns-in_ok-send-in-Ok-clause-ok : goal.returns-in_ok-send-in-Ok-clause-ok
@@ -29,7 +29,7 @@ returns-then-is_of_output-clause-err g c =
 pub returns-in_err-send-in-Err-clause-err : goal.returns-in_err-send-in-Err-clause-err
 returns-in_err-send-in-Err-clause-err g c =
     if_err_from _ Write (ReplayedTo g.T.Teller.telling _ _ _ _) c.from_residual-in_err-send-in-Err.ensures.1
-    (fault_part_written g.T.Teller.telling (λ x. place (g.W.Write.contents x.1) x.0.output x.0.session x.0.writes.failed) c.in-Err.stopped (g.R.Read.remaining c.args.reader.now) (g.R.Read.remaining c.take_lines.new.reader) (g.R.Read.remaining c.take_lines.new.reader) _
+    (fault_part_written g.T.Teller.telling (λ x. place (g.W.Write.contents x.1) x.0.output x.0.session x.0.writes.failed) c.in-Err.stopped (g.R.Read.remaining c.args.reader.now) (g.R.Read.remaining c.take_lines.new.reader) _
     (c.args.script.now, c.args.writer.now) (c.take_lines.new.taker, c.take_lines.new.output) c.requires.new
     (sym (ap is_of_output c.fault_or-fault.ensures) ∙ sym c.is_of_output.ensures ∙ c.if-is_of_output.false) c.in-Err.ensures.err c.in_err-send-in-Err.ensures.part)
 
