@@ -7,10 +7,11 @@ ghost use Rattle.hba_ffi.specs.{
   Events.{AnswersBits, AnswersInterface, AnswersRegister, AnswersSignAs, AnswersUnknown, HasHandedOut, error_numbered, kind_numbered},
   Over.{Changes},
   PlaceView.{view_of},
+  Plugging.{AnswersOther},
 };
 
 use ahci_ffi::Status;
-use hba_ffi::HbaPlace;
+use hba_ffi::{FlatIdentity, HbaPlace};
 use std::alloc::Global;
 
 /// The link is lost.
@@ -45,6 +46,28 @@ pub extern "C" fn ahci_hba_plug(hba: &mut HbaPlace, heap: Global) -> u32
     ensures { Changes result (view_of hba.old) (view_of hba.new) ⊤ (λ answer old new. (answer ≡ Status.Done) × (new ≡ device_plugged old)) }
 {
     over!(hba, heap, |held| hba_ffi::plug(&mut held))
+}
+
+/// Another disk of so many sectors is plugged in where one was pulled out. Its sectors are those of `base`, and zeros after them, until they are written; the
+/// bytes of `base` never change and live as long as the disk is there.
+#[unsafe(no_mangle)]
+pub extern "C" fn ahci_hba_plug_other(
+    hba: &mut HbaPlace,
+    heap: Global,
+    base: &'static [u8],
+    sectors: u32,
+    depth: u32,
+    identity: &FlatIdentity,
+    entries: &mut u64,
+) -> u32
+    ensures { Changes result (view_of hba.old) (view_of hba.new) (entries.new ≡ entries.old)
+        (λ answer old new. AnswersOther base.now sectors depth identity.now answer old new entries.old entries.new) }
+{
+    over!(
+        hba,
+        heap,
+        |held| hba_ffi::plug_other(&mut held, heap, base, sectors, depth, identity, entries)
+    )
 }
 
 /// The interface fails under a FIS; the error is fatal unless `is_fatal` is 0.

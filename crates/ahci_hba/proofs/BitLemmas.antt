@@ -9,7 +9,7 @@ use Rattle.hba_regs.specs.PortStates.{bsy_or_drq_of, cfis_success, ended_by_sign
 use Rattle.hba_regs.specs.Receiving.{after_srst_cleared}
 use Rattle.hba_regs.specs.declared.soft_reset.SoftReset.{SoftReset}
 use Rattle.hba_regs.specs.declared.soft_reset.SoftReset.TheVariants.{Off, Held, Ending}
-use Rattle.ahci_hba.specs.Transitions.{Transition, CfisSuccess, DrOverflow, ErrFatal, PioEntry, PioUpdate, RegFisEntry, RegFisPostToMem, RegFisUnsolicited, RegFisUpdate}
+use Rattle.ahci_hba.specs.Transitions.{Transition, CfisSuccess, DrOverflow, ErrFatal, PioEntry, PioUpdate, PrdSetIntr, RegFisEntry, RegFisPostToMem, RegFisUnsolicited, RegFisUpdate}
 use Rattle.ahci_hba.specs.Transitions.{SdbEntry, SelectCmd, SrstCleared, SrstSet, Stuck, UnknownFis, after, answers_command, answers_tag, ends_reset}
 
 leaves : (s : List Bool) (a i : ℕ) → has_place (without_place s a) i ≡ (has_place s i && not (nat_eq a i))
@@ -95,6 +95,7 @@ issued (SdbEntry status error i sactive) p slot = (sets_bits p status error i sa
 issued (PioEntry status) p slot = stays (has_place p.ci slot)
 issued (PioUpdate e_status error i s) p slot = moves_data p e_status error i s slot
 issued DrOverflow p slot = stays (has_place p.ci slot)
+issued PrdSetIntr p slot = stays (has_place p.ci slot)
 issued (ErrFatal f) p slot = stays (has_place p.ci slot)
 issued RegFisUnsolicited p slot = (unsolicited p slot p.st).0 ∙ stays (has_place p.ci slot)
 issued (RegFisUpdate kind) p slot = signs p p.soft slot
@@ -139,6 +140,7 @@ active (SdbEntry status error i sactive) p slot = (sets_bits p status error i sa
 active (PioEntry status) p slot = stays (has_place p.sact slot)
 active (PioUpdate e_status error i s) p slot = keeps_data p e_status error i s slot ∙ stays (has_place p.sact slot)
 active DrOverflow p slot = stays (has_place p.sact slot)
+active PrdSetIntr p slot = stays (has_place p.sact slot)
 active (ErrFatal f) p slot = stays (has_place p.sact slot)
 active RegFisUnsolicited p slot = (unsolicited p slot p.st).1 ∙ stays (has_place p.sact slot)
 active (RegFisUpdate kind) p slot = stays (has_place p.sact slot)

@@ -17,7 +17,7 @@ use Rattle.hba_command.specs.declared.action.Action.{Action}
 use Rattle.hba_command.specs.declared.action.Action.TheVariants as action
 use Rattle.ahci_port.specs.PortView.{PortView, sectors_in}
 use Rattle.ahci_port.specs.Steps.{IsIdentified}
-use Rattle.ahci_hba.specs.Executing.{Identifies, paged, pages_given, replied, reply_fis}
+use Rattle.ahci_hba.specs.Executing.{Identifies, marked_by, paged, pages_given, replied, reply_fis}
 use Rattle.ahci_hba.specs.Failing.{concluded, vacated}
 use Rattle.hba_command.specs.declared.reply.Reply.{Reply}
 use Rattle.ahci_hba.specs.Keeping.{changed_by}
@@ -101,11 +101,12 @@ pub gives_pages : (h taken new : HbaView) (slot : ℕ) (p : Protocol) (list list
 gives_pages h taken new slot p list listed bytes n fis by was same is made =
     reads_for h taken new slot list listed bytes (512 * n) fis was same is made ∙ sym (ap {A = Protocol} {B = HbaView} (λ x. pages_given h slot x list bytes n) by)
 
--- a command that moves nothing is answered, and then the power mode and what the disk keeps are those behind it
-pub replies : (h done turning new : HbaView) (slot : ℕ) (r : Reply) (fis : D2hFields) → fis ≡ reply_fis h r → done ≡ concluded h slot fis → turning ≡ turned r done
-    → new ≡ changed_by r turning → new ≡ replied h slot r
-replies h done turning new slot r fis is ended turns made =
+-- a command that moves nothing is answered, and then the power mode, what the disk keeps and the marks are those behind it
+pub replies : (h done turning changing new : HbaView) (slot : ℕ) (r : Reply) (fis : D2hFields) → fis ≡ reply_fis h r → done ≡ concluded h slot fis → turning ≡ turned r done
+    → changing ≡ changed_by r turning → new ≡ marked_by r changing → new ≡ replied h slot r
+replies h done turning changing new slot r fis is ended turns changes made =
     made
-    ∙ ap {A = HbaView} {B = HbaView} (λ v. changed_by r v) turns
-    ∙ ap {A = HbaView} {B = HbaView} (λ v. changed_by r (turned r v)) ended
-    ∙ ap {A = D2hFields} {B = HbaView} (λ f. changed_by r (turned r (concluded h slot f))) is
+    ∙ ap {A = HbaView} {B = HbaView} (λ v. marked_by r v) changes
+    ∙ ap {A = HbaView} {B = HbaView} (λ v. marked_by r (changed_by r v)) turns
+    ∙ ap {A = HbaView} {B = HbaView} (λ v. marked_by r (changed_by r (turned r v))) ended
+    ∙ ap {A = D2hFields} {B = HbaView} (λ f. marked_by r (changed_by r (turned r (concluded h slot f)))) is

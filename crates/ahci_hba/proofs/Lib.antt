@@ -7,7 +7,9 @@ pub mod ExecutingLemmas
 pub mod FailingLemmas
 pub mod LawLemmas
 pub mod LogLemmas
+pub mod MarkingLemmas
 pub mod NewLemmas
+pub mod PluggingLemmas
 pub mod RecoveringLemmas
 pub mod SendingLemmas
 pub mod ServeLemmas

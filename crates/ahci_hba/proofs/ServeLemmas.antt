@@ -1,5 +1,5 @@
 -- The request of a tag that was just served is done, and is the owner's.
-use Rattle.std.proofs.Common.{◌≡◌, ℕ, Bool, true, false, cond, List, ◌∷◌, [], Option, None, Some, IsSomeAnd, slice_set, refl, ap, sym, subst, ◌∙◌}
+use Rattle.std.proofs.Common.{◌≡◌, ℕ, Bool, true, false, cond, List, ◌∷◌, [], Option, None, Some, IsSomeAnd, refl, ap, sym, subst, ◌∙◌}
 use Rattle.std.proofs.lemmas.Bool.{eq-eqb}
 use Rattle.std.specs.Option.{option_map}
 use Rattle.ncq_journal.specs.declared.phase.Phase.TheVariants.{Done}
@@ -16,10 +16,8 @@ use Rattle.ahci_port.specs.declared.step.DeviceStep.TheVariants.{Serve}
 use Rattle.ahci_port.specs.declared.step.Stepped.{Stepped}
 use Rattle.ahci_table.specs.Window.{WindowState}
 use Rattle.ncq_journal.specs.declared.outcome.Outcome.{Outcome}
-use Rattle.hba_command.specs.declared.entry.PrdEntry.{PrdEntry}
-use Rattle.hba_command.specs.declared.task.Task.{Task}
-use Rattle.ahci_hba.specs.HbaView.{HbaView, Served}
-use Rattle.ahci_hba.specs.Queueing.{IsServed, command_at, list_in, task_in}
+use Rattle.ahci_hba.specs.HbaView.{HbaView}
+use Rattle.ahci_hba.specs.Queueing.{IsServed, command_at, handed_over, list_in, task_in}
 use Rattle.ahci_port.specs.declared.fault.CollectFault.{CollectFault}
 use Rattle.ahci_port.specs.declared.fault.CollectFault.TheVariants.{Stranger, NotYet}
 
@@ -56,14 +54,12 @@ served_is_collected old middle slot number owner first past =
     ∙ completed_is_collected old.first old.past slot number owner
 
 -- what the port did makes up what the controller did
-pub serves : (slot tag number entry : ℕ) (outcome : Outcome) (h taken new : HbaView) (middle port : PortView) (s : DeviceStep) (answer : Stepped) (window : WindowState)
-    (t : Task) (list : List PrdEntry)
+pub serves : (slot tag number entry : ℕ) (outcome : Outcome) (h new : HbaView) (middle port : PortView) (s : DeviceStep) (answer : Stepped) (window : WindowState)
     → tag ≡ slot → s ≡ Serve (record { items = tag ∷ [] }) → IsStepped s h.port middle answer → IsCollected tag middle port → Some number ≡ owner_of h.port tag
     → answer_to middle number ≡ Some (record { entry = entry; outcome = outcome; bytes = bytes_in outcome window })
-    → taken ≡ record h { port = port; slots = slice_set h.slots slot None } → t ≡ task_in (command_at h slot) → list ≡ list_in (command_at h slot)
-    → new ≡ record taken { work = Served slot t window list }
+    → new ≡ handed_over (record h { port = port }) slot window
     → IsServed slot (task_in (command_at h slot)) (list_in (command_at h slot)) h new
-serves slot tag number entry outcome h taken new middle port s answer window t list same e stepped collected owner answered was asked listed made = record {
+serves slot tag number entry outcome h new middle port s answer window same e stepped collected owner answered made = record {
   middle = middle;
   port = port;
   answer = answer;
@@ -73,8 +69,5 @@ serves slot tag number entry outcome h taken new middle port s answer window t l
   number = number;
   owner = ap (λ n. owner_of h.port n) (sym same) ∙ sym owner;
   answered = subst (λ o. IsSomeAnd o (λ a. a.bytes ≡ bytes_in a.outcome window)) (sym answered) refl;
-  served =
-      made ∙ ap {A = HbaView} (λ v. record v { work = Served slot t window list }) was
-      ∙ ap {A = List PrdEntry} {B = HbaView} (λ l. record h { port = port; slots = slice_set h.slots slot None; work = Served slot t window l }) listed
-      ∙ ap {A = Task} {B = HbaView} (λ x. record h { port = port; slots = slice_set h.slots slot None; work = Served slot x window (list_in (command_at h slot)) }) asked;
+  served = made;
 }

@@ -20,8 +20,12 @@ use Rattle.hba_command.specs.declared.log.Log.TheVariants.{Pages, QueuedError}
 use Rattle.hba_command.specs.declared.page.Page.TheVariants as page
 use Rattle.hba_command.specs.declared.protocol.Protocol.{Protocol}
 use Rattle.hba_command.specs.declared.protocol.Protocol.TheVariants.{Pio as ByPio, Multiple, Dma as ByDma}
+use Rattle.hba_command.specs.declared.reply.Reply.{Reply as Replies}
+use Rattle.hba_command.specs.declared.reply.Reply.TheVariants as reply
 use Rattle.hba_command.specs.declared.store.Store.{Store as Stores}
+use Rattle.hba_command.specs.Uncorrectable.{marked_with}
 use Rattle.hba_memory.specs.Posting.{PostingView}
+use Rattle.hba_memory.specs.Processing.{has_processed}
 use Rattle.hba_memory.specs.Runs.{placed}
 use Rattle.hba_regs.specs.Receiving.{after_srst_cleared, moved}
 use Rattle.hba_regs.specs.declared.device_kind.DeviceKind.{DeviceKind}
@@ -34,19 +38,20 @@ use Rattle.ahci_port.specs.declared.step.Stepped.{Stepped}
 use Rattle.ahci_hba.specs.Delivering.{answer_with, answered, block_in, block_out, block_posting, bytes_for, closing, dma_answer, done, finishing}
 use Rattle.ahci_hba.specs.Delivering.{fis_ending, going_on, only_before, page_answer, page_posting, queued_answer, queued_posting, read_answer, read_posting, received_put, setup_put}
 use Rattle.ahci_hba.specs.Dropping.{is_spent, port_after}
-use Rattle.ahci_hba.specs.Executing.{Executes, Performs, aborted, disk_page_given, first_missing, is_aborted, log_given, long_log_in, paged, pages_given, replied, reply_fis}
-use Rattle.ahci_hba.specs.Failing.{Fails, concluded, ended_at, ended_with, ending_fis, failed_posting, moved_before}
+use Rattle.ahci_hba.specs.Executing.{Executes, Performs, aborted, can_mark, disk_page_given, is_aborted, log_given, long_log_in, marked_by, paged, pages_given, replied, reply_fis, stopped, stops_at, stops_with}
+use Rattle.ahci_hba.specs.Failing.{Fails, concluded, ended_at, ended_with, ending_fis, failed_posting, moved_before, own_in}
 use Rattle.ahci_hba.specs.Failing.{moved_sectors, queue_failed, read_failed, sectors_before, sectors_ended, sectors_failed, sectors_of, vacated}
 use Rattle.ahci_hba.specs.HbaView.{CommandView, Fetched, Sent, HbaView, WorkView, Idle, Fetching, Served, Pio, Block, Posting}
-use Rattle.ahci_hba.specs.Keeping.{device_ended, keeping}
-use Rattle.ahci_hba.specs.Moving.{answering, blocking, ending_of}
-use Rattle.ahci_hba.specs.Powering.{awake}
+use Rattle.ahci_hba.specs.Keeping.{changed_by, device_ended, keeping}
+use Rattle.ahci_hba.specs.Marking.{marked_for, marking}
+use Rattle.ahci_hba.specs.Moving.{answering, blocking, ending_of, ending_of_data}
+use Rattle.ahci_hba.specs.Powering.{awake, turned}
 use Rattle.ahci_hba.specs.Queueing.{Sends, accepting, after_acceptance, command_at, fis_put, has_alone, is_taken, list_in, only_after, task_in}
 use Rattle.ahci_hba.specs.Recovering.{Recovers, error_log_in, error_page}
 use Rattle.ahci_hba.specs.Resetting.{control_in, controlled, released, sent_by, signature, signing, signing_for}
-use Rattle.ahci_hba.specs.Stepping.{IsTaken}
+use Rattle.ahci_hba.specs.Stepping.{IsTaken, ServesTo, marked_at, stop_for}
 use Rattle.ahci_hba.specs.Storing.{content_in, store_fis, stored, taken_by}
-use Rattle.ahci_hba.specs.Transfer.{TransferView, fits, has_interrupt, is_last, moved_to, next_block, next_list, next_sectors}
+use Rattle.ahci_hba.specs.Transfer.{TransferView, fits, has_interrupt, is_last, moved_to, next_block, next_list, next_processes, next_sectors}
 use Rattle.ahci_hba.specs.Transitions.{Takes, SelectCmd, SrstCleared, SrstSet}
 use Rattle.ahci_hba.specs.declared.ending.Ending.{Ending}
 use Rattle.ahci_hba.specs.declared.last_fis.LastFis.TheVariants as last_fis
@@ -89,40 +94,40 @@ accepts slot alone old port answer = by (alone && is_taken answer)
 
 -- ---- deliveries
 
-closes : (h : HbaView) (slot n : ℕ) (fis : D2hFields) → Takes h.registers (closing h slot n fis).registers
-closes h slot n fis = answers h (read_posting h.registers slot [] n fis) (ending_of true (fis_ending slot fis))
+closes : (h : HbaView) (slot n : ℕ) (b : Bool) (fis : D2hFields) → Takes h.registers (closing h slot n b fis).registers
+closes h slot n b fis = answers h (read_posting h.registers slot [] n fis) (ending_of_data true b (fis_ending slot fis))
 
 reads : (h : HbaView) (slot : ℕ) (list : List PrdEntry) (bytes : List ℕ) (n : ℕ) (fis : D2hFields) → Takes h.registers (read_answer h slot list bytes n fis).registers
 reads h slot list bytes n fis =
-    answers h (read_posting h.registers slot (placed list bytes) (moved_to n list) fis) (ending_of (fits n list) (fis_ending slot fis))
+    answers h (read_posting h.registers slot (placed list bytes) (moved_to n list) fis) (ending_of_data (fits n list) (has_processed list n) (fis_ending slot fis))
 
 concludes : (h : HbaView) (slot : ℕ) (fis : D2hFields) → Takes h.registers (concluded h slot fis).registers
 concludes h slot fis =
     answers (vacated h slot) (only_after (received_put h.registers 0x40 (d2h_bytes fis))) (ending_of true (fis_ending slot fis))
 
-completes : (h : HbaView) (slot : ℕ) (list : List PrdEntry) (bytes : List ℕ) (n : ℕ) → Takes h.registers (queued_answer h slot list bytes n).registers
-completes h slot list bytes n =
-    answers h (queued_posting h.registers h.port (placed list bytes)) (ending_of (fits n list) (last_fis.Bits 0x40 0 (2 ^ slot)))
+completes : (h : HbaView) (slot : ℕ) (list : List PrdEntry) (bytes : List ℕ) (whole : Bool) (n : ℕ) → Takes h.registers (queued_answer h slot list bytes whole n).registers
+completes h slot list bytes whole n =
+    answers h (queued_posting h.registers h.port (placed list bytes)) (ending_of_data whole (has_processed list n) (last_fis.Bits 0x40 0 (2 ^ slot)))
 
 closes_or_reads : (h : HbaView) (slot : ℕ) (write : Bool) (list : List PrdEntry) (bytes : List ℕ) (n : ℕ) → Takes h.registers (dma_answer h slot write list bytes n).registers
-closes_or_reads h slot true list bytes n = closes h slot n done
+closes_or_reads h slot true list bytes n = closes h slot n (has_processed list n) done
 closes_or_reads h slot false list bytes n = reads h slot list bytes n done
 
 answers_with : (h : HbaView) (slot : ℕ) (list : List PrdEntry) (bytes : List ℕ) (a : Action) → Takes h.registers (answer_with h slot list bytes a).registers
-answers_with h slot list bytes (Queue q) = completes h slot list bytes (if q.write then 0 else 512 * q.sectors)
+answers_with h slot list bytes (Queue q) = completes h slot list bytes (q.write || fits (512 * q.sectors) list) (512 * q.sectors)
 answers_with h slot list bytes (Sectors write span ByDma) = closes_or_reads h slot write list bytes (512 * span.sectors)
 answers_with h slot list bytes (Sectors write span ByPio) = none h.registers
 answers_with h slot list bytes (Sectors write span Multiple) = none h.registers
-answers_with h slot list bytes (Page page p) = closes h slot 0 done
-answers_with h slot list bytes (Store s p) = closes h slot 0 done
-answers_with h slot list bytes (Flush a) = closes h slot 0 done
-answers_with h slot list bytes (Reply r) = closes h slot 0 done
-answers_with h slot list bytes (Control reset) = closes h slot 0 done
-answers_with h slot list bytes Abort = closes h slot 0 done
+answers_with h slot list bytes (Page page p) = closes h slot 0 false done
+answers_with h slot list bytes (Store s p) = closes h slot 0 false done
+answers_with h slot list bytes (Flush a) = closes h slot 0 false done
+answers_with h slot list bytes (Reply r) = closes h slot 0 false done
+answers_with h slot list bytes (Control reset) = closes h slot 0 false done
+answers_with h slot list bytes Abort = closes h slot 0 false done
 
 finishes : (h : HbaView) (t : TransferView) (fis : Option D2hFields) → Takes h.registers (finishing h t fis).registers
 finishes h t None = none h.registers
-finishes h t (Some fis) = closes h t.slot t.moved fis
+finishes h t (Some fis) = closes h t.slot t.moved false fis
 
 moves_in : (h : HbaView) (t : TransferView) → Takes h.registers (block_in h t).registers
 moves_in h t = by (is_last t)
@@ -131,7 +136,7 @@ moves_in h t = by (is_last t)
     posted = block_posting h.registers t 0x40
 
     end : Ending
-    end = ending_of (fits (512 * next_sectors t) (next_list t)) (last_fis.Pio t.slot)
+    end = ending_of_data (fits (512 * next_sectors t) (next_list t)) (next_processes t) (last_fis.Pio t.slot)
 
     by : (b : Bool) → Takes h.registers (if b then answering h posted end else blocking h (block_posting h.registers t 0xC0) (next_block t)).registers
     by true = answers h posted end
@@ -161,7 +166,7 @@ delivers h (Posting p e) = none h.registers
 
 sends_page : (h : HbaView) (slot : ℕ) (list : List PrdEntry) (page : List ℕ) → Takes h.registers (page_answer (vacated h slot) slot list page).registers
 sends_page h slot list page =
-    answers (vacated h slot) (page_posting h.registers slot (placed list page) (moved_to 512 list)) (ending_of (fits 512 list) (last_fis.Pio slot))
+    answers (vacated h slot) (page_posting h.registers slot (placed list page) (moved_to 512 list)) (ending_of_data (fits 512 list) (has_processed list 512) (last_fis.Pio slot))
 
 gives_page : (h : HbaView) (slot : ℕ) (p : Protocol) (list : List PrdEntry) (page : List ℕ) → Takes h.registers (paged h slot p list page).registers
 gives_page h slot ByPio list page = sends_page h slot list page
@@ -207,28 +212,48 @@ gives_disk_page h slot p list page = by (allows_page h.device page)
     by true = gives_page h slot p list (ready_page h.device page)
     by false = concludes h slot aborted
 
-takes_blocks : (h : HbaView) (slot : ℕ) (p : Protocol) (n : ℕ) (fis : D2hFields) → Takes h.registers (taken_by h slot p n fis).registers
-takes_blocks h slot ByPio n fis = none h.registers
-takes_blocks h slot Multiple n fis = none h.registers
-takes_blocks h slot ByDma n fis = closes h slot (512 * n) fis
+takes_blocks : (h : HbaView) (slot : ℕ) (p : Protocol) (list : List PrdEntry) (n : ℕ) (fis : D2hFields) → Takes h.registers (taken_by h slot p list n fis).registers
+takes_blocks h slot ByPio list n fis = none h.registers
+takes_blocks h slot Multiple list n fis = none h.registers
+takes_blocks h slot ByDma list n fis = closes h slot (512 * n) (has_processed list (512 * n)) fis
 
-stores : (h : HbaView) (slot : ℕ) (s : Stores) (p : Protocol) (bytes : List ℕ) → Takes h.registers (stored h slot s p bytes).registers
-stores h slot s p bytes = takes_blocks (keeping (vacated h slot) (after_store s bytes h.device)) slot p (blocks_of s) (store_fis h.port s bytes)
+stores : (h : HbaView) (slot : ℕ) (s : Stores) (p : Protocol) (list : List PrdEntry) (bytes : List ℕ) → Takes h.registers (stored h slot s p list bytes).registers
+stores h slot s p list bytes = takes_blocks (keeping (vacated h slot) (after_store s bytes h.device)) slot p list (blocks_of s) (store_fis h.port s bytes)
+
+-- a mark moves no register
+marks_none : (r : Replies) (old new : HbaView) → Takes old.registers new.registers → Takes old.registers (marked_by r new).registers
+marks_none (reply.Marked span) old new t = by (can_mark new span)
+  where
+    by : (b : Bool) → Takes old.registers (if b then marking new (marked_with span.lba span.sectors new.marks) else new).registers
+    by true = t
+    by false = t
+marks_none reply.Done old new t = t
+marks_none (reply.Verified span) old new t = t
+marks_none (reply.NativeMax a) old new t = t
+marks_none reply.PowerMode old new t = t
+marks_none (reply.Entered mode) old new t = t
+marks_none (reply.Changed c) old new t = t
+marks_none reply.SmartStatus old new t = t
+marks_none reply.Diagnosed old new t = t
+marks_none reply.Packet old new t = t
 
 performs : (slot : ℕ) (a : Action) (list : List PrdEntry) (old new : HbaView) → Performs slot a list old new → Takes old.registers new.registers
 performs slot (Queue q) list old new h = made_by old new (concluded old slot aborted) h (concludes old slot aborted)
 performs slot (Sectors write span p) list old new h =
-    made_by old new (awake (sectors_failed old slot list write span p 0x10 (first_missing old.port span))) h (fails_sectors old slot list write span p 0x10 (first_missing old.port span))
+    let found = marked_for old (Sectors write span p) in
+    made_by old new (awake (stopped old slot list write span p found)) h (fails_sectors old slot list write span p (stops_with found) (stops_at old.port span found))
 performs slot (Page page.Identify p) list old new h =
     let page = controller_page (sectors_in old.port) old.depth old.device in
     made_by old new (paged (record old { port = h.port }) slot ByPio list page) h.answered (gives_page (record old { port = h.port }) slot ByPio list page)
 performs slot (Page (page.Log log) p) list old new h = made_by old new (log_given old slot p list log) h (gives_log old slot p list log)
 performs slot (Page (page.Disk ready) p) list old new h = made_by old new (disk_page_given old slot p list ready) h (gives_disk_page old slot p list ready)
 performs slot (Store s p) list old new h =
-    let bytes = content_in (command_at old slot) in made_by old new (stored old slot s p bytes) h (stores old slot s p bytes)
+    let bytes = content_in (command_at old slot) in made_by old new (stored old slot s p list bytes) h (stores old slot s p list bytes)
 performs slot (Flush a) list old new h =
     made_by old new (awake (concluded (record old { port = h.port }) slot done)) h.answered (concludes (record old { port = h.port }) slot done)
-performs slot (Reply r) list old new h = made_by old new (replied old slot r) h (concludes old slot (reply_fis old r))
+performs slot (Reply r) list old new h =
+    made_by old new (replied old slot r) h
+    (marks_none r old (changed_by r (turned r (concluded old slot (reply_fis old r)))) (concludes old slot (reply_fis old r)))
 performs slot (Control reset) list old new h = absurd h
 performs slot Abort list old new h = made_by old new (concluded old slot aborted) h (concludes old slot aborted)
 
@@ -260,6 +285,22 @@ recovers slot p list old new journal r =
     of_some (answer_to r.middle r.number) {P = λ a. new ≡ paged (record old { port = port_after (not (is_spent r.port)) r.port }) slot p list (error_page r.tag a.outcome)}
     (λ a h. pages slot p list (error_page r.tag a.outcome) (port_after (not (is_spent r.port)) r.port) old new h) r.answered
 
+pub fails : (slot error lba : ℕ) (q : Option QueuedFields) (old new : HbaView) → Fails slot error lba q old new → Takes old.registers new.registers
+fails slot error lba (Some q) old new f =
+    let port = f.middle.port in
+    let list = list_in (command_at old slot) in
+    let n = moved_sectors old.port q lba in
+    let bytes = sectors_of old.port q.lba n in
+    made_by old new (queue_failed old port slot q list bytes n error) f.answered
+    (answers (record old { port = port }) (failed_posting old.registers port slot q list bytes n)
+    (ending_of_data (nat_eq n 0 || fits (512 * n) list) (has_processed list (512 * n)) (last_fis.Bits 0x41 error 0)))
+fails slot error lba None old new f = absurd f
+
+-- a command is served, or fails at a marked sector
+serves_or_fails : (stop : Option ℕ) (slot : ℕ) (old new : HbaView) → ServesTo stop slot old new → Takes old.registers new.registers
+serves_or_fails None slot old new s = made_by old new _ s.served (none old.registers)
+serves_or_fails (Some lba) slot old new f = fails slot 0x40 lba (own_in old slot lba) old new f
+
 -- ---- each step
 
 pub takes_steps : (s : Step) (slot : ℕ) (old new : HbaView) (journal : Option History) → IsTaken s slot old new journal → Takes old.registers new.registers
@@ -267,7 +308,7 @@ takes_steps step.Fetch slot old new journal t = made_by old new _ t.0 (one old.r
 takes_steps step.Send slot old new journal t = sends slot (command_at old slot) old new t.0
 takes_steps step.Accept slot old new journal t =
     made_by old new (awake (after_acceptance slot (has_alone (command_at old slot)) old t.0.port t.0.answer)) t.0.answered (accepts slot (has_alone (command_at old slot)) old t.0.port t.0.answer)
-takes_steps step.Serve slot old new journal t = made_by old new _ t.0.served (none old.registers)
+takes_steps step.Serve slot old new journal t = serves_or_fails (stop_for old slot (marked_at old slot)) slot old new t.0
 takes_steps step.Deliver slot old new journal t = made_by old new (answered old old.work) t.0 (delivers old old.work)
 takes_steps step.Execute slot old new journal t =
     executes (is_aborted old (action_of (task_in (command_at old slot)))) slot (action_of (task_in (command_at old slot))) (list_in (command_at old slot)) old new t.0
@@ -280,17 +321,6 @@ signs old kind = by (sent_by old.registers.port.signature kind)
   where
     by : (sent : DeviceKind) → Takes old.registers (signing_for old sent).registers
     by sent = answers old (only_after (received_put old.registers 0x40 (d2h_bytes (signature sent)))) (ending_of true (last_fis.Signature sent))
-
-pub fails : (slot error lba : ℕ) (q : Option QueuedFields) (old new : HbaView) → Fails slot error lba q old new → Takes old.registers new.registers
-fails slot error lba (Some q) old new f =
-    let port = f.middle.port in
-    let list = list_in (command_at old slot) in
-    let n = moved_sectors old.port q lba in
-    let bytes = sectors_of old.port q.lba n in
-    made_by old new (queue_failed old port slot q list bytes n error) f.answered
-    (answers (record old { port = port }) (failed_posting old.registers port slot q list bytes n)
-    (ending_of (nat_eq n 0 || fits (512 * n) list) (last_fis.Bits 0x41 error 0)))
-fails slot error lba None old new f = absurd f
 
 ends_with : (h : HbaView) (slot : ℕ) (list : List PrdEntry) (a : Action) (status error lba : ℕ) → Takes h.registers (ended_with h slot list a status error lba).registers
 ends_with h slot list (Queue q) status error lba = concludes h slot (ending_fis (addressing_of (Queue q)) status error lba)

@@ -10,9 +10,9 @@ use Rattle.hba_regs.specs.declared.signature.Signature.TheVariants.{Past, Due, U
 use Rattle.hba_memory.specs.Posting.{PostingView, advanced, is_none, remaining}
 use Rattle.hba_memory.specs.Reading.{ReadingView, Header, Command, Entries, Content, Whole, Malformed, Short, after_bytes}
 use Rattle.ahci_hba.specs.HbaView.{HbaView, WorkView, Idle, Fetching, Served, Pio, Block, Posting}
-use Rattle.ahci_hba.specs.Moving.{answering, block_ended, blocking, ended, ended_by, host_failed, overflowed, put_done, read_so_far, setup_taken, supplied}
+use Rattle.ahci_hba.specs.Moving.{answering, block_ended, blocking, ended, ended_by, host_failed, overflowed, processed, put_done, read_so_far, setup_taken, supplied}
 use Rattle.ahci_hba.specs.Transfer.{TransferView, has_interrupt}
-use Rattle.ahci_hba.specs.Transitions.{Takes, Transition, CfisSuccess, DrOverflow, ErrFatal, PioEntry, PioUpdate, RegFisEntry}
+use Rattle.ahci_hba.specs.Transitions.{Takes, Transition, CfisSuccess, DrOverflow, ErrFatal, PioEntry, PioUpdate, PrdSetIntr, RegFisEntry}
 use Rattle.ahci_hba.specs.Transitions.{RegFisPostToMem, RegFisUnsolicited, RegFisUpdate, SdbEntry, Stuck, UnknownFis, after, after_all}
 use Rattle.ahci_hba.specs.declared.ending.Ending.{Ending}
 use Rattle.ahci_hba.specs.declared.last_fis.LastFis.{LastFis}
@@ -40,6 +40,14 @@ overflows : (s : HbaState) (b : Bool) → Takes s (overflowed s b)
 overflows s true = one s DrOverflow
 overflows s false = none s
 
+processes : (s : HbaState) (b : Bool) → Takes s (processed s b)
+processes s true = one s PrdSetIntr
+processes s false = none s
+
+-- the two of some data
+moves_data : (s : HbaState) (overflow b : Bool) → Takes s (processed (overflowed s overflow) b)
+moves_data s overflow b = both s (overflowed s overflow) _ (overflows s overflow) (processes (overflowed s overflow) b)
+
 takes_signature : (s : HbaState) (kind : DeviceKind) (b : Bool) (g : Signature) → g ≡ s.port.signature → Takes s (if b then moved s (signed kind s.port g) else s)
 takes_signature s kind false g e = none s
 takes_signature s kind true Past e = one s RegFisPostToMem
@@ -57,13 +65,15 @@ ends_by s last_fis.Unsolicited = one s RegFisUnsolicited
 ends_by s last_fis.Unknown = one s UnknownFis
 
 ends : (s : HbaState) (e : Ending) → Takes s (ended s e)
-ends s e = both s (overflowed s e.overflow) _ (overflows s e.overflow) (ends_by (overflowed s e.overflow) e.fis)
+ends s e =
+    let o = processed (overflowed s e.overflow) e.processed in
+    both s o _ (moves_data s e.overflow e.processed) (ends_by o e.fis)
 
 block_ends : (s : HbaState) (t : TransferView) → Takes s (block_ended s t)
 unfolding block_ended
 block_ends s t =
-    let o = overflowed s t.short in
-    both s o _ (overflows s t.short)
+    let o = processed (overflowed s t.short) t.processed in
+    both s o _ (moves_data s t.short t.processed)
     (both o (setup_taken o) _ (one o (PioEntry 0x48)) (one (setup_taken o) (PioUpdate 0xC0 0 (has_interrupt t) t.slot)))
 
 pub answers : (h : HbaView) (p : PostingView) (e : Ending) → Takes h.registers (answering h p e).registers

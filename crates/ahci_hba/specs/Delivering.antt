@@ -1,5 +1,5 @@
 -- How the answer to a command is put together (AHCI 1.3.1, sections 4.2.1, 4.2.2, 5.3 and 6.1.5; Serial ATA, "FIS types").
-use Rattle.std.specs.Prelude.{ℕ, ◌+◌, ◌*◌, ◌^◌, Bool, true, false, nat_eq, List, [], ◌∷◌, Option, None, Some, if◌then◌else◌, not}
+use Rattle.std.specs.Prelude.{ℕ, ◌+◌, ◌*◌, ◌^◌, Bool, true, false, nat_eq, List, [], ◌∷◌, Option, None, Some, if◌then◌else◌, not, ◌||◌}
 use Rattle.std.specs.Int.{byte_at}
 use Rattle.sata_fis.specs.Encoding.{d2h_bytes, pio_setup_bytes}
 use Rattle.sata_fis.specs.Fields.{D2hFields, PioSetupFields}
@@ -13,6 +13,7 @@ use Rattle.hba_command.specs.declared.protocol.Protocol.TheVariants.{Dma as ByDm
 use Rattle.hba_command.specs.declared.task.Task.{Task}
 use Rattle.hba_memory.specs.Blocks.{BlocksView, block_puts}
 use Rattle.hba_memory.specs.Posting.{PostingView}
+use Rattle.hba_memory.specs.Processing.{has_processed}
 use Rattle.hba_memory.specs.Reading.{is_write}
 use Rattle.hba_memory.specs.Runs.{Put, placed}
 use Rattle.hba_memory.specs.Table.{wrapped}
@@ -21,9 +22,9 @@ use Rattle.ahci_port.specs.PortView.{PortView}
 use Rattle.ahci_table.specs.Text.{text}
 use Rattle.ahci_table.specs.Window.{WindowState}
 use Rattle.ahci_hba.specs.HbaView.{HbaView, WorkView, Idle, Served, Pio}
-use Rattle.ahci_hba.specs.Moving.{answering, blocking, ending_of}
+use Rattle.ahci_hba.specs.Moving.{answering, blocking, ending_of_data}
 use Rattle.ahci_hba.specs.Queueing.{fis_put}
-use Rattle.ahci_hba.specs.Transfer.{TransferView, first_block, fits, has_interrupt, is_last, moved_so_far, moved_to, next_block, next_list, next_sectors, sends_block}
+use Rattle.ahci_hba.specs.Transfer.{TransferView, first_block, fits, has_interrupt, is_last, moved_so_far, moved_to, next_block, next_list, next_processes, next_sectors, sends_block}
 use Rattle.ahci_hba.specs.declared.last_fis.LastFis.{LastFis}
 use Rattle.ahci_hba.specs.declared.last_fis.LastFis.TheVariants as last_fis
 
@@ -57,14 +58,14 @@ setup_fis d i e_status n = record { i = i; d = d; status = 0x48; error = 0; lba 
 abbrev pub setup_put : HbaState → (d i : Bool) → (e_status sectors : ℕ) → List Put
 setup_put s d i e_status n = received_put s 0x20 (pio_setup_bytes (setup_fis d i e_status n))
 
--- a queued read: a DMA Setup FIS, the data, and a Set Device Bits FIS
+-- a queued command: a DMA Setup FIS, the data of a read, and a Set Device Bits FIS. So many bytes have moved, to the driver or from it
 abbrev pub queued_posting : HbaState → PortView → List Put → PostingView
 queued_posting s port content =
     record { before = fis_put s port 0x00 28; content = content; count = []; after = fis_put s port 0x58 8 }
 
-abbrev pub queued_answer : HbaView → ℕ → List PrdEntry → List ℕ → ℕ → HbaView
-queued_answer h slot list bytes n =
-    answering h (queued_posting h.registers h.port (placed list bytes)) (ending_of (fits n list) (last_fis.Bits 0x40 0 (2 ^ slot)))
+abbrev pub queued_answer : HbaView → ℕ → List PrdEntry → List ℕ → (whole : Bool) → ℕ → HbaView
+queued_answer h slot list bytes whole n =
+    answering h (queued_posting h.registers h.port (placed list bytes)) (ending_of_data whole (has_processed list n) (last_fis.Bits 0x40 0 (2 ^ slot)))
 
 -- a read by DMA: the data, PRDBC, and a D2H Register FIS
 abbrev pub read_posting : HbaState → ℕ → List Put → ℕ → D2hFields → PostingView
@@ -74,11 +75,11 @@ read_posting s slot content moved fis =
 abbrev pub read_answer : HbaView → ℕ → List PrdEntry → List ℕ → ℕ → D2hFields → HbaView
 read_answer h slot list bytes n fis =
     answering h (read_posting h.registers slot (placed list bytes) (moved_to n list) fis)
-    (ending_of (fits n list) (fis_ending slot fis))
+    (ending_of_data (fits n list) (has_processed list n) (fis_ending slot fis))
 
--- the end of a command whose data have moved: PRDBC, and a D2H Register FIS
-abbrev pub closing : HbaView → ℕ → ℕ → D2hFields → HbaView
-closing h slot n fis = answering h (read_posting h.registers slot [] n fis) (ending_of true (fis_ending slot fis))
+-- the end of a command whose data have moved, with the last byte of an entry with I or not: PRDBC, and a D2H Register FIS
+abbrev pub closing : HbaView → ℕ → ℕ → (processed : Bool) → D2hFields → HbaView
+closing h slot n processed fis = answering h (read_posting h.registers slot [] n fis) (ending_of_data true processed (fis_ending slot fis))
 
 -- a page by PIO: a PIO Setup FIS, the page, and PRDBC
 abbrev pub page_posting : HbaState → ℕ → List Put → ℕ → PostingView
@@ -86,7 +87,8 @@ page_posting s slot content moved = record { before = setup_put s true true 0x40
 
 abbrev pub page_answer : HbaView → ℕ → List PrdEntry → List ℕ → HbaView
 page_answer h slot list page =
-    answering h (page_posting h.registers slot (placed list page) (moved_to 512 list)) (ending_of (fits 512 list) (last_fis.Pio slot))
+    answering h (page_posting h.registers slot (placed list page) (moved_to 512 list))
+    (ending_of_data (fits 512 list) (has_processed list 512) (last_fis.Pio slot))
 
 -- a transfer by PIO begins, of so many sectors in blocks of at most so many
 abbrev pub beginning : HbaView → ℕ → Bool → (n most : ℕ) → BlocksView → Option D2hFields → HbaView
@@ -105,13 +107,13 @@ abbrev pub delivered : WorkView → List ℕ
 delivered (Served slot t w list) = bytes_for t w
 delivered other = []
 
--- the answer to a queued command; a write has no list
+-- the answer to a queued command; the list of a write has room for its data
 abbrev pub queue_answer : HbaView → ℕ → Bool → List PrdEntry → List ℕ → ℕ → HbaView
-queue_answer h slot write list bytes n = queued_answer h slot list bytes (if write then 0 else n)
+queue_answer h slot write list bytes n = queued_answer h slot list bytes (write || fits n list) n
 
 -- to one that moves sectors
 abbrev pub dma_answer : HbaView → ℕ → Bool → List PrdEntry → List ℕ → ℕ → HbaView
-dma_answer h slot write list bytes n = if write then closing h slot n done else read_answer h slot list bytes n done
+dma_answer h slot write list bytes n = if write then closing h slot n (has_processed list n) done else read_answer h slot list bytes n done
 
 abbrev pub finish_of : Bool → Option D2hFields
 finish_of write = if write then Some done else None
@@ -124,12 +126,12 @@ sectors_answer h slot p write list bytes n = beginning_by h slot p write n (reco
 abbrev pub answer_with : HbaView → ℕ → List PrdEntry → List ℕ → Action → HbaView
 answer_with h slot list bytes (action.Queue q) = queue_answer h slot q.write list bytes (512 * q.sectors)
 answer_with h slot list bytes (action.Sectors write span p) = sectors_answer h slot p write list bytes span.sectors
-answer_with h slot list bytes (action.Page page p) = closing h slot 0 done
-answer_with h slot list bytes (action.Store s p) = closing h slot 0 done
-answer_with h slot list bytes (action.Flush a) = closing h slot 0 done
-answer_with h slot list bytes (action.Reply r) = closing h slot 0 done
-answer_with h slot list bytes (action.Control reset) = closing h slot 0 done
-answer_with h slot list bytes action.Abort = closing h slot 0 done
+answer_with h slot list bytes (action.Page page p) = closing h slot 0 false done
+answer_with h slot list bytes (action.Store s p) = closing h slot 0 false done
+answer_with h slot list bytes (action.Flush a) = closing h slot 0 false done
+answer_with h slot list bytes (action.Reply r) = closing h slot 0 false done
+answer_with h slot list bytes (action.Control reset) = closing h slot 0 false done
+answer_with h slot list bytes action.Abort = closing h slot 0 false done
 
 -- a block of a write, of so many sectors, which the transfer has behind it then
 abbrev pub only_before : List Put → PostingView
@@ -150,13 +152,14 @@ block_posting s t e_status =
 
 abbrev pub block_in : HbaView → TransferView → HbaView
 block_in h t =
-    if is_last t then answering h (block_posting h.registers t 0x40) (ending_of (fits (512 * next_sectors t) (next_list t)) (last_fis.Pio t.slot))
+    if is_last t then
+    answering h (block_posting h.registers t 0x40) (ending_of_data (fits (512 * next_sectors t) (next_list t)) (next_processes t) (last_fis.Pio t.slot))
     else blocking h (block_posting h.registers t 0xC0) (next_block t)
 
--- all blocks have moved
+-- all blocks have moved, and each has set DPS if it had to
 abbrev pub finishing : HbaView → TransferView → Option D2hFields → HbaView
 finishing h t None = record h { work = Idle }
-finishing h t (Some fis) = closing h t.slot t.moved fis
+finishing h t (Some fis) = closing h t.slot t.moved false fis
 
 -- the next step of a transfer
 abbrev pub going_on : HbaView → TransferView → HbaView

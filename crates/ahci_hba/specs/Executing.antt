@@ -12,6 +12,7 @@ use Rattle.hba_command.specs.NotQueued.{unfailed_page}
 use Rattle.hba_command.specs.Pages.{controller_page}
 use Rattle.hba_command.specs.Power.{power_count}
 use Rattle.hba_command.specs.Span.{SpanFields}
+use Rattle.hba_command.specs.Uncorrectable.{has_room, marked_with}
 use Rattle.hba_command.specs.declared.action.Action.{Action}
 use Rattle.hba_command.specs.declared.action.Action.TheVariants.{Queue, Sectors, Page, Store, Flush, Reply as Replies, Control, Abort}
 use Rattle.hba_command.specs.declared.addressing.Addressing.{Addressing}
@@ -34,6 +35,7 @@ use Rattle.ahci_hba.specs.Delivering.{beginning, d2h_fis, done, page_answer, rea
 use Rattle.ahci_hba.specs.Failing.{concluded, moves_some, sectors_failed, vacated}
 use Rattle.ahci_hba.specs.HbaView.{CommandView, Fetched, HbaView}
 use Rattle.ahci_hba.specs.Keeping.{changed_by, device_ended, keeping}
+use Rattle.ahci_hba.specs.Marking.{marked_for, marked_on, marking}
 use Rattle.ahci_hba.specs.Powering.{awake, turned}
 use Rattle.ahci_hba.specs.Queueing.{command_at, has_no_blocks, has_queued, is_alone, is_failed, is_on, list_in, task_in}
 use Rattle.ahci_hba.specs.Storing.{content_in, stored}
@@ -49,9 +51,28 @@ signed status error = d2h_fis status error 1 1
 abbrev pub first_missing : PortView → SpanFields → ℕ
 first_missing port span = max span.lba (sectors_in port)
 
--- a read that moves nothing: the sectors are on the disk, or IDNF names the first one that is not
-abbrev pub verified : PortView → SpanFields → D2hFields
-verified port span = if is_on port span then done else addressed span.addressing (d2h_fis 0x41 0x10 0 0) (first_missing port span)
+-- some sectors are on the disk, or IDNF names the first one that is not
+abbrev pub found_all : PortView → SpanFields → D2hFields
+found_all port span = if is_on port span then done else addressed span.addressing (d2h_fis 0x41 0x10 0 0) (first_missing port span)
+
+-- a read that moves nothing: UNC names the first sector that is marked
+abbrev pub verified_to : PortView → SpanFields → (marked : Option ℕ) → D2hFields
+verified_to port span None = found_all port span
+verified_to port span (Some lba) = addressed span.addressing (d2h_fis 0x41 0x40 0 0) lba
+
+abbrev pub verified : HbaView → SpanFields → D2hFields
+verified h span = verified_to h.port span (marked_on h.port h.marks span.lba span.sectors)
+
+-- WRITE UNCORRECTABLE EXT marks sectors that are all on the disk; without room for their marks it is aborted (profile)
+abbrev pub can_mark : HbaView → SpanFields → Bool
+can_mark h span = is_on h.port span && has_room span.lba span.sectors h.marks
+
+abbrev pub marked_fis : HbaView → SpanFields → D2hFields
+marked_fis h span = if is_on h.port span && not (has_room span.lba span.sectors h.marks) then aborted else found_all h.port span
+
+abbrev pub marked_by : Reply → HbaView → HbaView
+marked_by (reply.Marked span) h = if can_mark h span then marking h (marked_with span.lba span.sectors h.marks) else h
+marked_by other h = h
 
 -- the LBA of the last sector, of 28 bits at most FFF_FFFFh (ACS-3, "READ NATIVE MAX ADDRESS")
 abbrev pub native_max : Addressing → PortView → ℕ
@@ -70,7 +91,8 @@ smart_fis d = if d.smart then d2h_fis 0x40 0 0xC24F00 0 else aborted
 abbrev pub reply_fis : HbaView → Reply → D2hFields
 reply_fis h reply.Done = done
 reply_fis h (reply.Entered mode) = done
-reply_fis h (reply.Verified span) = verified h.port span
+reply_fis h (reply.Verified span) = verified h span
+reply_fis h (reply.Marked span) = marked_fis h span
 reply_fis h (reply.NativeMax a) = addressed a done (native_max a h.port)
 reply_fis h reply.PowerMode = d2h_fis 0x40 0 0 (power_count h.power)
 reply_fis h (reply.Changed c) = changed_fis h.device c
@@ -78,9 +100,9 @@ reply_fis h reply.SmartStatus = smart_fis h.device
 reply_fis h reply.Diagnosed = signed 0x40 0x01
 reply_fis h reply.Packet = signed 0x41 0x04
 
--- and the power mode and what the disk keeps behind it
+-- and the power mode, what the disk keeps and the marks behind it
 abbrev pub replied : HbaView → ℕ → Reply → HbaView
-replied h slot r = changed_by r (turned r (concluded h slot (reply_fis h r)))
+replied h slot r = marked_by r (changed_by r (turned r (concluded h slot (reply_fis h r))))
 
 -- a page of 512 bytes goes to the driver, by PIO or DMA
 abbrev pub page_by : HbaView → ℕ → Protocol → List PrdEntry → List ℕ → HbaView
@@ -138,15 +160,27 @@ abbrev pub disk_page_given : HbaView → ℕ → Protocol → List PrdEntry → 
 disk_page_given h slot p list page =
     if allows_page h.device page then keeping (paged h slot p list (ready_page h.device page)) (after_page page h.device) else concluded h slot aborted
 
--- what the device does with a command that it doesn't abort and the port doesn't take. Sectors are not all on the disk then: those of a read
--- that are there move, and the device is Active. A queued command has a tag that the device hasn't
+-- a command that moves sectors stops: at the first one that a read finds marked (UNC), else at the first one that is not on the disk (IDNF)
+abbrev pub stops_at : PortView → SpanFields → (marked : Option ℕ) → ℕ
+stops_at port span None = first_missing port span
+stops_at port span (Some lba) = lba
+
+abbrev pub stops_with : (marked : Option ℕ) → ℕ
+stops_with None = 0x10
+stops_with (Some lba) = 0x40
+
+abbrev pub stopped : HbaView → ℕ → List PrdEntry → Bool → SpanFields → Protocol → (marked : Option ℕ) → HbaView
+stopped h slot list write span p marked = sectors_failed h slot list write span p (stops_with marked) (stops_at h.port span marked)
+
+-- what the device does with a command that it doesn't abort and the port doesn't take. Of sectors one is marked then, or not on the disk: those of a read
+-- before it move, and the device is Active. A queued command has a tag that the device hasn't
 abbrev pub Performs : ℕ → Action → List PrdEntry → HbaView → HbaView → Type 0
 Performs slot (Queue q) list old new = new ≡ concluded old slot aborted
-Performs slot (Sectors write span p) list old new = new ≡ awake (sectors_failed old slot list write span p 0x10 (first_missing old.port span))
+Performs slot (Sectors write span p) list old new = new ≡ awake (stopped old slot list write span p (marked_for old (Sectors write span p)))
 Performs slot (Page page.Identify p) list old new = Identifies slot list old new
 Performs slot (Page (page.Log log) p) list old new = new ≡ log_given old slot p list log
 Performs slot (Page (page.Disk ready) p) list old new = new ≡ disk_page_given old slot p list ready
-Performs slot (Store s p) list old new = new ≡ stored old slot s p (content_in (command_at old slot))
+Performs slot (Store s p) list old new = new ≡ stored old slot s p list (content_in (command_at old slot))
 Performs slot (Flush a) list old new = Flushes slot old new
 Performs slot (Replies r) list old new = new ≡ replied old slot r
 Performs slot (Control reset) list old new = ⊥
@@ -161,11 +195,11 @@ Executes false slot a list old new = Performs slot a list old new
 abbrev pub ExecutesAt : ℕ → Action → List PrdEntry → HbaView → HbaView → Type 0
 ExecutesAt slot a list old new = Executes (is_aborted old a) slot a list old new
 
--- an allocation can be refused: for a page, for the journal that a flush stands in, and for the sectors of a read that are there
+-- an allocation can be refused: for a page, for the journal that a flush stands in, and for the sectors of a read that move
 abbrev pub MayLack : HbaView → Action → Type 0
 MayLack h (Page page p) = Unit {0}
 MayLack h (Flush a) = LacksRoom h.port
-MayLack h (Sectors write span p) = moves_some h.port write span (first_missing h.port span) ≡ true
+MayLack h (Sectors write span p) = moves_some h.port write span (stops_at h.port span (marked_for h (Sectors write span p))) ≡ true
 MayLack h other = ⊥
 
 abbrev pub LacksUnless : (aborts : Bool) → HbaView → Action → Type 0

@@ -16,6 +16,7 @@ use Rattle.hba_command.specs.declared.entry.PrdEntry.{PrdEntry}
 use Rattle.hba_command.specs.declared.protocol.Protocol.{Protocol}
 use Rattle.hba_command.specs.declared.protocol.Protocol.TheVariants.{Dma}
 use Rattle.hba_memory.specs.Posting.{PostingView}
+use Rattle.hba_memory.specs.Processing.{has_processed}
 use Rattle.hba_memory.specs.Runs.{placed}
 use Rattle.hba_regs.specs.HbaState.{HbaState}
 use Rattle.ahci_port.specs.PortView.{PortView, sectors_in}
@@ -25,7 +26,7 @@ use Rattle.ahci_port.specs.declared.step.Stepped.{Stepped}
 use Rattle.ahci_hba.specs.Delivering.{beginning_by, d2h_fis, fis_ending, read_answer, received_put}
 use Rattle.ahci_hba.specs.HbaView.{HbaView}
 use Rattle.ahci_hba.specs.Keeping.{device_ended, keeping}
-use Rattle.ahci_hba.specs.Moving.{answering, ending_of}
+use Rattle.ahci_hba.specs.Moving.{answering, ending_of, ending_of_data}
 use Rattle.ahci_hba.specs.Powering.{woken_for}
 use Rattle.ahci_hba.specs.Queueing.{command_at, fis_put, list_in, only_after, task_in}
 use Rattle.ahci_hba.specs.Transfer.{fits}
@@ -141,7 +142,7 @@ failed_posting s port slot q list bytes n =
 abbrev pub failure_answered : HbaView → PortView → (slot : ℕ) → QueuedFields → List PrdEntry → List ℕ → ℕ → ℕ → HbaView
 failure_answered h port slot q list bytes n error =
     answering (record h { port = port }) (failed_posting h.registers port slot q list bytes n)
-    (ending_of (nat_eq n 0 || fits (512 * n) list) (Bits 0x41 error 0))
+    (ending_of_data (nat_eq n 0 || fits (512 * n) list) (has_processed list (512 * n)) (Bits 0x41 error 0))
 
 -- and ICRC is counted
 abbrev pub queue_failed : HbaView → PortView → (slot : ℕ) → QueuedFields → List PrdEntry → List ℕ → ℕ → ℕ → HbaView

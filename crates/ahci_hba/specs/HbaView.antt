@@ -53,6 +53,8 @@ pub record HbaView : Type 0 where
   pub power : Power
   -- what the disk keeps between commands
   pub device : Device
+  -- the sectors that are marked uncorrectable: each stays so over every reset and power cycle, until it is written
+  pub marks : List ℕ
   -- by slot, the commands that were read and are not done
   pub slots : List (Option CommandView)
   -- what is read or written just now

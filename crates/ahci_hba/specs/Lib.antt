@@ -1,5 +1,6 @@
 pub mod Transfer
 pub mod HbaView
+pub mod Marking
 pub mod Powering
 pub mod Keeping
 pub mod States
@@ -11,6 +12,7 @@ pub mod Delivering
 pub mod Failing
 pub mod Storing
 pub mod Events
+pub mod Plugging
 pub mod Executing
 pub mod Resetting
 pub mod Recovering

@@ -5,7 +5,7 @@ use Rattle.hba_memory.specs.Reading.{ReadingView, Whole, Malformed, Short, after
 use Rattle.hba_memory.specs.Runs.{Put, Run, first_put}
 use Rattle.hba_regs.specs.HbaState.{HbaState}
 use Rattle.hba_regs.specs.InterfaceErrors.{unknown_received}
-use Rattle.hba_regs.specs.PortStates.{cfis_success, dr_overflow, err_fatal, pio_entry, pio_update, reg_fis_entry, reg_fis_unsolicited, sdb_entry, stuck}
+use Rattle.hba_regs.specs.PortStates.{cfis_success, dr_overflow, err_fatal, pio_entry, pio_update, prd_set_intr, reg_fis_entry, reg_fis_unsolicited, sdb_entry, stuck}
 use Rattle.hba_regs.specs.Receiving.{moved, signature_moves, signed}
 use Rattle.hba_regs.specs.declared.fatal.Fatal.{Fatal}
 use Rattle.hba_regs.specs.declared.fatal.Fatal.TheVariants as fatal
@@ -79,9 +79,13 @@ abbrev pub supplied : HbaView → WorkView → List ℕ → HbaView
 supplied h (Fetching slot r) bytes = read_so_far h slot (after_bytes r bytes)
 supplied h other bytes = h
 
--- how an answer ends whose data had room in their list, or not
+-- how an answer ends whose data had room in their list, or not, and had the last byte of an entry with I, or not
+abbrev pub ending_of_data : (whole processed : Bool) → LastFis → Ending
+ending_of_data whole processed fis = record { overflow = not whole; processed = processed; fis = fis }
+
+-- and one that processes no entry
 abbrev pub ending_of : (whole : Bool) → LastFis → Ending
-ending_of whole fis = record { overflow = not whole; fis = fis }
+ending_of whole fis = ending_of_data whole false fis
 
 -- memory is allocated with these bytes
 abbrev pub allocates_with : WorkView → List ℕ → Bool
@@ -91,6 +95,10 @@ allocates_with other bytes = false
 -- what data without room in their list do to the registers
 abbrev pub overflowed : HbaState → Bool → HbaState
 overflowed s overflow = if overflow then moved s (dr_overflow s.port) else s
+
+-- and data with the last byte of an entry with I: DPS (sections 3.3.5, DPS, and 4.2.3.3)
+abbrev pub processed : HbaState → Bool → HbaState
+processed s processes = if processes then moved s (prd_set_intr s.port) else s
 
 -- what the last FIS of an answer does to them
 abbrev pub after_data_in : HbaState → ℕ → HbaState
@@ -105,7 +113,7 @@ ended_by s last_fis.Unsolicited = moved s (reg_fis_unsolicited s.port)
 ended_by s last_fis.Unknown = moved s (unknown_received s.port)
 
 abbrev pub ended : HbaState → Ending → HbaState
-ended s e = ended_by (overflowed s e.overflow) e.fis
+ended s e = ended_by (processed (overflowed s e.overflow) e.processed) e.fis
 
 -- an answer, of which so much is still to be written: with the last byte it takes effect
 abbrev pub answering : HbaView → PostingView → Ending → HbaView
@@ -119,7 +127,7 @@ abbrev pub after_block_of : HbaState → TransferView → HbaState
 after_block_of s t = moved s (pio_update 0xC0 0 (has_interrupt t) t.slot s.port)
 
 unfoldable pub block_ended : HbaState → TransferView → HbaState
-block_ended s t = after_block_of (setup_taken (overflowed s t.short)) t
+block_ended s t = after_block_of (setup_taken (processed (overflowed s t.short) t.processed)) t
 
 -- a block of a transfer, of which so much is still to be written: with the last byte it has moved
 abbrev pub blocking : HbaView → PostingView → TransferView → HbaView

@@ -16,6 +16,7 @@ powered_on h =
       registers = powered_with h.registers.port.present h.registers.port.capabilities;
       port = port_after (is_reset Reset h) h.port;
       device = power_cycled h.device;
+      marks = h.marks;
     }
 
 -- the journal that the port hands out if it is reset

@@ -32,6 +32,7 @@ use Rattle.ahci_port.specs.declared.step.DeviceStep.TheVariants as step
 use Rattle.ahci_port.specs.declared.step.Stepped.{Stepped}
 use Rattle.ahci_port.specs.declared.step.Stepped.TheVariants as stepped
 use Rattle.ahci_hba.specs.HbaView.{CommandView, Fetched, Sent, HbaView, WorkView, Idle, Fetching, Served}
+use Rattle.ahci_hba.specs.Marking.{marked_for, marks_after}
 use Rattle.ahci_hba.specs.Moving.{answering, ending_of}
 use Rattle.ahci_hba.specs.Powering.{awake}
 use Rattle.ahci_hba.specs.declared.last_fis.LastFis.{LastFis}
@@ -98,10 +99,11 @@ has_no_blocks h (Sectors write span p) = lacks_blocks h.device.multiple p
 has_no_blocks h other = false
 
 -- a command goes to the port: a queued one whose tag the device has, or one that moves sectors of the disk while no queued one is outstanding,
--- whose blocks have a size
+-- whose blocks have a size, and that reads no marked sector
 abbrev pub moves_sectors : HbaView → Action → Bool
 moves_sectors h (Queue q) = has_tag h q
-moves_sectors h (Sectors write span p) = is_on h.port span && not (list_any has_queued h.slots) && not (lacks_blocks h.device.multiple p)
+moves_sectors h (Sectors write span p) =
+    is_on h.port span && not (list_any has_queued h.slots) && not (lacks_blocks h.device.multiple p) && not (is_some (marked_for h (Sectors write span p)))
 moves_sectors h (Page page p) = false
 moves_sectors h (Store s p) = false
 moves_sectors h (Flush a) = false
@@ -259,8 +261,17 @@ pub record IsAccepted (slot : ℕ) (alone : Bool) (old new : HbaView) : Type 0 w
   pub stepped : IsStepped (step.Accept slot) old.port port answer
   pub answered : new ≡ awake (after_acceptance slot alone old port answer)
 
+-- the answer to a slot's command waits to be put together, and what it has written is not marked any more
+abbrev pub handed_over : HbaView → ℕ → WindowState → HbaView
+handed_over h slot window =
+    record h {
+      slots = slice_set h.slots slot None;
+      work = Served slot (task_in (command_at h slot)) window (list_in (command_at h slot));
+      marks = marks_after (action_of (task_in (command_at h slot))) h.marks;
+    }
+
 -- the device moves the data of a slot's command and completes it, and its answer is taken from the port: the window has the bytes of
--- the answer by the journal
+-- the answer by the journal. What a write has written is not marked any more
 pub record IsServed (slot : ℕ) (t : Task) (list : List PrdEntry) (old new : HbaView) : Type 0 where
   pub middle : PortView
   pub port : PortView
@@ -271,4 +282,4 @@ pub record IsServed (slot : ℕ) (t : Task) (list : List PrdEntry) (old new : Hb
   pub number : ℕ
   pub owner : owner_of old.port slot ≡ Some number
   pub answered : IsSomeAnd (answer_to middle number) (λ a. a.bytes ≡ bytes_in a.outcome window)
-  pub served : new ≡ record old { port = port; slots = slice_set old.slots slot None; work = Served slot t window list }
+  pub served : new ≡ record old { port = port; slots = slice_set old.slots slot None; work = Served slot t window list; marks = marks_after (action_of t) old.marks }

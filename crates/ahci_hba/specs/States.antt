@@ -1,5 +1,5 @@
 -- The first state of a controller, and what every state keeps.
-use Rattle.std.specs.Prelude.{◌≡◌, ◌≤◌, ℕ, Bool, false, List, Option, None, length, replicate}
+use Rattle.std.specs.Prelude.{◌≡◌, ◌≤◌, ℕ, Bool, false, List, [], Option, None, length, replicate}
 use Rattle.hba_command.specs.Device.{new_device}
 use Rattle.hba_command.specs.declared.power.Power.TheVariants.{Active}
 use Rattle.hba_regs.specs.CapFields.{CapFields, usual}
@@ -18,6 +18,7 @@ hba_over grows image depth c = record {
   depth = depth;
   power = Active;
   device = new_device;
+  marks = [];
   slots = replicate 32 None;
   work = Idle;
 }

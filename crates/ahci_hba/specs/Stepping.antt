@@ -15,8 +15,9 @@ use Rattle.ahci_port.specs.Faults.{is_accepted, is_issued, is_of_request, op_ref
 use Rattle.ahci_hba.specs.Delivering.{answered, sends_data}
 use Rattle.ahci_hba.specs.Executing.{IsExecuted, MayLackAt, is_aborted, is_alone_fetched}
 use Rattle.sata_fis.specs.Fields.{QueuedFields}
-use Rattle.ahci_hba.specs.Failing.{fails_at, own_in}
+use Rattle.ahci_hba.specs.Failing.{Fails, fails_at, own_in}
 use Rattle.ahci_hba.specs.HbaView.{CommandView, Fetched, HbaView, WorkView, Served, Pio}
+use Rattle.ahci_hba.specs.Marking.{marked_for}
 use Rattle.ahci_hba.specs.Queueing.{IsAccepted, IsServed, Sends, asked_for, command_at, fetching, goes_to_port, has_alone, has_queued, has_tag, is_failed, is_listening, is_on, is_ready, is_running, is_sent, list_in, may_fetch, task_in}
 use Rattle.ahci_hba.specs.Recovering.{ReadsErrorLog, error_log_in}
 use Rattle.ahci_hba.specs.Resetting.{IsControlled, control_in, control_journal}
@@ -46,6 +47,23 @@ may_fail_at h slot lba None = false
 abbrev pub may_fail : HbaView → ℕ → ℕ → Bool
 may_fail h slot lba = may_serve h slot && may_fail_at h slot lba (own_in h slot lba)
 
+-- the marked sector at which a read of a slot fails. One that is not queued is tested before it goes to the port, and no other command comes then
+abbrev pub marked_at : HbaView → ℕ → Option ℕ
+marked_at h slot = marked_for h (action_of (task_in (command_at h slot)))
+
+-- a queued one fails there if its request has that sector
+abbrev pub stop_for : HbaView → ℕ → Option ℕ → Option ℕ
+stop_for h slot None = None
+stop_for h slot (Some lba) = if may_fail h slot lba then Some lba else None
+
+-- the device serves a command, or fails it at a marked sector
+abbrev pub ServesTo : (stop : Option ℕ) → ℕ → HbaView → HbaView → Type 0
+ServesTo None slot old new = IsServed slot (task_in (command_at old slot)) (list_in (command_at old slot)) old new
+ServesTo (Some lba) slot old new = Fails slot 0x40 lba (own_in old slot lba) old new
+
+abbrev pub Serves : ℕ → HbaView → HbaView → Type 0
+Serves slot old new = ServesTo (stop_for old slot (marked_at old slot)) slot old new
+
 -- what a command that was read asks of the disk
 abbrev pub work_at : Option CommandView → Work
 work_at (Some (Fetched t list bytes)) = asked_for t bytes
@@ -67,7 +85,8 @@ may_recover h slot =
 -- the device answers a command itself: it aborts it, or the port moves no sectors for it
 abbrev pub is_answered : HbaView → Action → Bool
 is_answered h (action.Queue q) = is_failed h || not (has_tag h q)
-is_answered h (action.Sectors write span p) = is_aborted h (action.Sectors write span p) || not (is_on h.port span)
+is_answered h (action.Sectors write span p) =
+    is_aborted h (action.Sectors write span p) || not (is_on h.port span) || is_some (marked_for h (action.Sectors write span p))
 is_answered h (action.Page Identify p) = is_aborted h (action.Page Identify p) || not (is_some (plain_refusal h.port))
 is_answered h (action.Page (Log (Pages l pages)) p) = true
 is_answered h (action.Page (Log QueuedError) p) = list_any has_queued h.slots || not (halted h.port.past)
@@ -139,19 +158,18 @@ abbrev pub IsTaken : Step → ℕ → HbaView → HbaView → Option History →
 IsTaken step.Fetch slot old new journal = (new ≡ fetching old slot) × (journal ≡ None)
 IsTaken step.Send slot old new journal = Sends slot (command_at old slot) old new × (journal ≡ None)
 IsTaken step.Accept slot old new journal = IsAccepted slot (has_alone (command_at old slot)) old new × (journal ≡ None)
-IsTaken step.Serve slot old new journal =
-    IsServed slot (task_in (command_at old slot)) (list_in (command_at old slot)) old new × (journal ≡ None)
+IsTaken step.Serve slot old new journal = Serves slot old new × (journal ≡ None)
 IsTaken step.Deliver slot old new journal = (new ≡ answered old old.work) × (journal ≡ None)
 IsTaken step.Execute slot old new journal = IsExecuted slot old new × (journal ≡ None)
 IsTaken step.Control slot old new journal = IsControlled slot old new × (journal ≡ control_journal old (control_in (command_at old slot)))
 IsTaken step.Recover slot old new journal = ReadsErrorLog slot old new journal
 
--- an allocation can be refused in a step: never where the device only takes a command, serves it, or takes a control FIS
+-- an allocation can be refused in a step: never where the device only takes a command, serves one that finds no mark, or takes a control FIS
 abbrev pub StepMayLack : Step → ℕ → HbaView → Type 0
 StepMayLack step.Fetch slot h = ⊥
 StepMayLack step.Send slot h = Unit {0}
 StepMayLack step.Accept slot h = ⊥
-StepMayLack step.Serve slot h = ⊥
+StepMayLack step.Serve slot h = is_some (marked_at h slot) ≡ true
 StepMayLack step.Deliver slot h = sends_data h.work ≡ true
 StepMayLack step.Execute slot h = MayLackAt slot h
 StepMayLack step.Control slot h = ⊥

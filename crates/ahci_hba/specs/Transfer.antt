@@ -3,19 +3,21 @@ use Rattle.std.specs.Prelude.{ℕ, ◌+◌, ◌-◌, ◌*◌, Bool, false, not, 
 use Rattle.sata_fis.specs.Fields.{D2hFields}
 use Rattle.hba_command.specs.declared.entry.PrdEntry.{PrdEntry}
 use Rattle.hba_memory.specs.Blocks.{BlocksView, after_block, block_list}
+use Rattle.hba_memory.specs.Processing.{has_processed}
 use Rattle.hba_memory.specs.Runs.{total}
 
--- how many sectors a block has at most, the blocks that are done, the sectors and the data of a read that are left, and the D2H Register FIS that
--- ends it, but for a read that its last block ends
+-- how many sectors a block has at most, the blocks that are done, the sectors that are left with their list, and the data of a read, and the D2H
+-- Register FIS that ends it, but for a read that its last block ends
 pub record TransferView : Type 0 where
   pub slot : ℕ
   pub write : Bool
   pub most : ℕ
   pub done : ℕ
   pub left : ℕ
-  -- how many bytes have moved, and whether the list had no room for the whole last block
+  -- how many bytes have moved, whether the list had no room for the whole last block, and whether this one had the last byte of an entry with I
   pub moved : ℕ
   pub short : Bool
+  pub processed : Bool
   pub rest : BlocksView
   pub finish : Option D2hFields
 
@@ -42,7 +44,7 @@ is_last t = nat_le t.left t.most && not (is_some t.finish)
 -- so many sectors come, in blocks of at most so many
 abbrev pub first_block : ℕ → Bool → (n most : ℕ) → BlocksView → Option D2hFields → TransferView
 first_block slot write n most rest finish =
-    record { slot = slot; write = write; most = most; done = 0; left = n; moved = 0; short = false; rest = rest; finish = finish }
+    record { slot = slot; write = write; most = most; done = 0; left = n; moved = 0; short = false; processed = false; rest = rest; finish = finish }
 
 -- a block to the driver comes next
 abbrev pub sends_block : TransferView → Bool
@@ -58,6 +60,10 @@ moved_next t = if t.write then 512 * next_sectors t else moved_to (512 * next_se
 abbrev pub moved_so_far : TransferView → ℕ
 moved_so_far t = t.moved + moved_next t
 
+-- whether the next block has the last byte of an entry with I
+abbrev pub next_processes : TransferView → Bool
+next_processes t = has_processed (next_list t) (512 * next_sectors t)
+
 -- the device goes on to the next block: of a write, whose data are there, with no byte to the driver
 abbrev pub next_block : TransferView → TransferView
 next_block t = record t {
@@ -65,5 +71,6 @@ next_block t = record t {
   left = t.left - next_sectors t;
   moved = moved_so_far t;
   short = not t.write && not (fits (512 * next_sectors t) (next_list t));
-  rest = if t.write then t.rest else after_block t.rest (next_sectors t);
+  processed = next_processes t;
+  rest = after_block t.rest (next_sectors t);
 }

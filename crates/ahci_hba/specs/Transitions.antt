@@ -4,7 +4,7 @@ use Rattle.std.specs.Prelude.{◌≡◌, ℕ, Bool, false, not, ◌&&◌, nat_eq
 use Rattle.word_bits.specs.Places.{bits, has_place}
 use Rattle.hba_regs.specs.HbaState.{HbaPort, HbaState}
 use Rattle.hba_regs.specs.InterfaceErrors.{unknown_received}
-use Rattle.hba_regs.specs.PortStates.{bsy_or_drq_of, cfis_success, dr_overflow, err_fatal, err_of, p_reg_fis_post_to_mem, p_reg_fis_update, p_select_cmd, pio_entry, pio_update, reg_fis_entry, reg_fis_unsolicited, sdb_entry, stuck}
+use Rattle.hba_regs.specs.PortStates.{bsy_or_drq_of, cfis_success, dr_overflow, err_fatal, err_of, p_reg_fis_post_to_mem, p_reg_fis_update, p_select_cmd, pio_entry, pio_update, prd_set_intr, reg_fis_entry, reg_fis_unsolicited, sdb_entry, stuck}
 use Rattle.hba_regs.specs.Receiving.{after_srst_cleared, after_srst_set, moved}
 use Rattle.hba_regs.specs.declared.device_kind.DeviceKind.{DeviceKind}
 use Rattle.hba_regs.specs.declared.fatal.Fatal.{Fatal}
@@ -30,6 +30,8 @@ pub data Transition : Type 0 where
   PioUpdate : (e_status error : ℕ) → (i : Bool) → (slot : ℕ) → Transition
   -- DR:Receive, with data for which the list has no room
   DrOverflow : Transition
+  -- DR:Receive or DX:Transmit, with the last byte of an entry with I
+  PrdSetIntr : Transition
   -- any state to ERR:Fatal
   ErrFatal : Fatal → Transition
   -- P:NotRunning to P:RegFisUpdate, or RegFIS:UpdateSig
@@ -52,6 +54,7 @@ after (SdbEntry status error i sactive) p = sdb_entry status error i sactive p
 after (PioEntry status) p = pio_entry status p
 after (PioUpdate e_status error i slot) p = pio_update e_status error i slot p
 after DrOverflow p = dr_overflow p
+after PrdSetIntr p = prd_set_intr p
 after (ErrFatal fatal) p = err_fatal fatal p
 after (RegFisUpdate kind) p = p_reg_fis_update kind p
 after RegFisPostToMem p = p_reg_fis_post_to_mem p

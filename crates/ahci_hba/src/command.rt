@@ -5,9 +5,9 @@ use std::marker::Model;
 /// A command that was read from a slot of the command list.
 #[derive(Drop)]
 pub enum Command<A: Allocator = Global> {
-    /// All of it is read: what it asks, its PRDT if it reads, its data if it writes.
+    /// All of it is read: what it asks, its PRDT, its data if it writes.
     Fetched(Task, Vec<PrdEntry, A>, Vec<u8, A>),
-    /// It is with the port, or is not for the port: what it asks, and its PRDT if it reads.
+    /// It is with the port, or is not for the port: what it asks, and its PRDT.
     Sent(Task, Vec<PrdEntry, A>),
 }
 

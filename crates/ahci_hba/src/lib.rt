@@ -18,7 +18,7 @@ mod work;
 
 pub use command::Command;
 pub use ending::Ending;
-pub use fault::HbaFault;
+pub use fault::{HbaFault, PlugFault};
 pub use hba::Hba;
 pub use hba_command::Power;
 pub use hba_regs::{AccessSize, Capabilities, DeviceKind, InterfaceError, Slot};

@@ -14,6 +14,7 @@ pub(crate) struct Transfer<A: Allocator = Global> {
     left: u32,
     moved: u32,
     short: bool,
+    processed: bool,
     rest: Blocks<A>,
     finish: Option<D2h>,
 }
@@ -24,14 +25,14 @@ impl<A: Allocator> Model for Transfer<A> {
 
     ghost Value = { TransferView };
 
-    ghost view = { λ t. record { slot = t.slot; write = t.write; most = t.most; done = t.done; left = t.left; moved = t.moved; short = t.short; rest = t.rest; finish = t.finish } };
+    ghost view = { λ t. record { slot = t.slot; write = t.write; most = t.most; done = t.done; left = t.left; moved = t.moved; short = t.short; processed = t.processed; rest = t.rest; finish = t.finish } };
 
     ghost invariant = { λ t. (t.done + t.left ≤ 65536) × (t.moved + 512 * t.left ≤ 33554432) × (1 ≤ t.most) × (t.most ≤ 16) };
 }
 
 impl<A: Allocator> Transfer<A> {
     ghost use Rattle.std.specs.Prelude.{◌≡◌, ◌≤◌, ◌<◌, ◌*◌, ◌+◌};
-    ghost use Rattle.ahci_hba.specs.Transfer.{first_block, fits, has_interrupt, is_last, moved_next, moved_so_far, next_block, next_list, next_sectors, sends_block};
+    ghost use Rattle.ahci_hba.specs.Transfer.{first_block, fits, has_interrupt, is_last, moved_next, moved_so_far, next_block, next_list, next_processes, next_sectors, sends_block};
 
     /// A transfer of so many sectors, in blocks of at most so many, for a slot; a D2H Register FIS ends it, or its last block.
     pub(crate) fn new(
@@ -55,6 +56,7 @@ impl<A: Allocator> Transfer<A> {
             left: sectors,
             moved: 0,
             short: false,
+            processed: false,
             rest,
             finish,
         }
@@ -111,7 +113,7 @@ impl<A: Allocator> Transfer<A> {
         self.finish
     }
 
-    /// The data that are left.
+    /// The data and the list that are left.
     pub(crate) fn rest(&self) -> &Blocks<A>
         ensures { result.now ≡ self.now.rest }
     {
@@ -154,6 +156,20 @@ impl<A: Allocator> Transfer<A> {
         self.short
     }
 
+    /// Whether the last block had the last byte of an entry with I.
+    pub(crate) fn has_processed(&self) -> bool
+        ensures { result ≡ self.now.processed }
+    {
+        self.processed
+    }
+
+    /// Whether the next block has the last byte of an entry with I.
+    pub(crate) fn next_processes(&self) -> bool
+        ensures { result ≡ next_processes self.now }
+    {
+        self.rest.block_processes(self.next_sectors())
+    }
+
     /// How many bytes the next block moves: those of a read that the list has room for.
     fn moved_next(&self) -> u32
         ensures value { result ≡ moved_next self.now }
@@ -183,12 +199,12 @@ impl<A: Allocator> Transfer<A> {
         let sectors = self.next_sectors();
         let moved = self.moved_so_far();
         let short = !self.write && !self.fits();
-        if !self.write {
-            self.rest.advance(sectors);
-        }
+        let processed = self.next_processes();
+        self.rest.advance(sectors);
         self.done += 1;
         self.left -= sectors;
         self.moved = moved;
         self.short = short;
+        self.processed = processed;
     }
 }

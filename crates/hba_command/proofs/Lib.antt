@@ -1,1 +1,2 @@
+pub mod UncorrectableLemmas
 pub mod WideNameLemmas

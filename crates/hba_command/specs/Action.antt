@@ -18,6 +18,7 @@ action_of (task.Queue q) = Queue q  -- READ FPDMA QUEUED, WRITE FPDMA QUEUED
 action_of (task.Read span p) = Sectors false span p  -- READ SECTOR(S), READ MULTIPLE, READ DMA, with EXT or without
 action_of (task.Write span p) = Sectors true span p  -- WRITE SECTOR(S), WRITE MULTIPLE, WRITE DMA, with EXT or without
 action_of (task.Verify span) = Reply (reply.Verified span)  -- READ VERIFY SECTOR(S), with EXT or without
+action_of (task.Mark span) = Reply (reply.Marked span)  -- WRITE UNCORRECTABLE EXT
 action_of (task.Flush a) = Flush a  -- FLUSH CACHE, with EXT or without
 action_of task.Identify = Page page.Identify Pio  -- IDENTIFY DEVICE
 action_of (task.ReadLog log p) = Page (page.Log log) p  -- READ LOG EXT, READ LOG DMA EXT

@@ -19,6 +19,7 @@ addressed Bits48 fis lba = record fis { lba = lba }
 -- a command that names no LBA is of 28 bits, if no field of its FIS is wider
 abbrev pub reply_addressing : Reply → Addressing
 reply_addressing (reply.Verified span) = span.addressing  -- READ VERIFY SECTOR(S), with EXT or without
+reply_addressing (reply.Marked span) = span.addressing  -- WRITE UNCORRECTABLE EXT
 reply_addressing (reply.NativeMax a) = a  -- READ NATIVE MAX ADDRESS, with EXT or without
 reply_addressing reply.Done = Bits28
 reply_addressing reply.PowerMode = Bits28

@@ -20,7 +20,7 @@ supported_pages = with_word 7 0x0605 (with_word 6 0x0403 (with_word 5 0x0201 (wi
 abbrev pub capacity_page : ℕ → List ℕ
 capacity_page s = with_word 11 0x8000 (with_word 7 0x8000 (with_word 5 (s / 2 ^ 16) (with_word 4 (s % 2 ^ 16) (headed 0x02))))
 
--- page 03h, supported capabilities: bytes 8 to 15 have the bits of words 119, 84, 83, 82 and 69 of IDENTIFY DEVICE. Bits 15:0: READ LOG DMA EXT (2), SMART error
+-- page 03h, supported capabilities: bytes 8 to 15 have the bits of words 119, 84, 83, 82 and 69 of IDENTIFY DEVICE. Bits 15:0: WRITE UNCORRECTABLE EXT (1), READ LOG DMA EXT (2), SMART error
 -- logging (7), SMART self-test (8), general purpose logging (11), WRITE DMA FUA EXT and WRITE MULTIPLE FUA EXT (12); bits 31:16: Advanced Power
 -- Management (16), 48-bit addresses (20), FLUSH CACHE EXT (22), SMART (23), the volatile write cache (24), read look-ahead (25), WRITE BUFFER (27), READ BUFFER
 -- (28); bits 47:32: WRITE BUFFER DMA (35), READ BUFFER DMA (36)
@@ -39,7 +39,7 @@ with_device i page =
 
 abbrev pub capabilities_page : Device → List ℕ
 capabilities_page d =
-    with_device d.identity (with_word 7 0x8000 (with_word 6 0x0018 (with_word 5 (capabilities d) (with_word 4 0x1984 (headed 0x03)))))
+    with_device d.identity (with_word 7 0x8000 (with_word 6 0x0018 (with_word 5 (capabilities d) (with_word 4 0x1986 (headed 0x03)))))
 
 -- page 04h, current settings: in bytes 8 to 15 Advanced Power Management (bit 4), SMART (8), read look-ahead (9), reverting to defaults (13) and the volatile
 -- write cache (15) as they are enabled

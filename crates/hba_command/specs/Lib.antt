@@ -1,6 +1,7 @@
 pub mod CommandHeader
 pub mod PrdEntry
 pub mod Span
+pub mod Uncorrectable
 pub mod LogPages
 pub mod DiskPage
 pub mod Store

@@ -32,14 +32,14 @@ further_enabled d = if d.power_level == 0 then 0xB400 else 0xB408
 
 -- a page with what the controller's commands support: beside word 82 in word 83 the same as in word 86, with bit 14, which is 1; in word 84 SMART error
 -- logging (0), SMART self-test (1), general purpose logging (5), WRITE DMA FUA EXT and WRITE MULTIPLE FUA EXT (6), and the world wide name (8); in word 119
--- READ LOG DMA EXT (3); bit 14 is 1 in each
+-- WRITE UNCORRECTABLE EXT (2) and READ LOG DMA EXT (3); bit 14 is 1 in each
 abbrev pub with_supported : Device → List ℕ → List ℕ
-with_supported d page = with_word 119 0x4008 (with_word 84 0x4163 (with_word 83 0x7408 (with_word 82 (supported d) page)))
+with_supported d page = with_word 119 0x400C (with_word 84 0x4163 (with_word 83 0x7408 (with_word 82 (supported d) page)))
 
 -- and what they have enabled now; word 91 has the level of Advanced Power Management
 abbrev pub with_enabled : Device → List ℕ → List ℕ
 with_enabled d page =
-    with_word 120 0x4008 (with_word 91 d.power_level (with_word 87 0x4163 (with_word 86 (further_enabled d) (with_word 85 (enabled d) page))))
+    with_word 120 0x400C (with_word 91 d.power_level (with_word 87 0x4163 (with_word 86 (further_enabled d) (with_word 85 (enabled d) page))))
 
 -- a page with further commands and logs: READ BUFFER DMA (word 69, bit 11) and WRITE BUFFER DMA (10), the SATA Phy Event Counters log (word 76,
 -- bit 10) beside NCQ, Gen2 and Gen1, DATA SET MANAGEMENT with at most eight blocks (word 105) and TRIM (word 169, bit 0)

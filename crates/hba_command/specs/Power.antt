@@ -33,6 +33,7 @@ after_reset Sleep = Standby
 abbrev pub after_reply : Reply → Power → Power
 after_reply (reply.Entered mode) p = mode  -- IDLE, STANDBY, with IMMEDIATE or without, SLEEP
 after_reply (reply.Verified span) p = Active  -- READ VERIFY SECTOR(S), with EXT or without
+after_reply (reply.Marked span) p = Active  -- WRITE UNCORRECTABLE EXT
 after_reply reply.Done p = p
 after_reply (reply.NativeMax a) p = p
 after_reply reply.PowerMode p = p
@@ -45,6 +46,7 @@ after_reply reply.Packet p = p
 abbrev pub reply_needs_medium : Reply → Bool
 reply_needs_medium (reply.Entered mode) = false
 reply_needs_medium (reply.Verified span) = true
+reply_needs_medium (reply.Marked span) = true
 reply_needs_medium reply.Done = false
 reply_needs_medium (reply.NativeMax a) = false
 reply_needs_medium reply.PowerMode = false

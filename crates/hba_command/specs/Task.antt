@@ -15,7 +15,7 @@ use Rattle.hba_command.specs.declared.protocol.Protocol.{Protocol}
 use Rattle.hba_command.specs.declared.protocol.Protocol.TheVariants.{Pio, Multiple, Dma}
 use Rattle.hba_command.specs.declared.store.Store.TheVariants as store
 use Rattle.hba_command.specs.declared.task.Task.{Task}
-use Rattle.hba_command.specs.declared.task.Task.TheVariants.{Queue, Read, Write, Verify, Flush, Identify, ReadLog, ReadPage, Store, Change, SmartStatus, NativeMax, PowerMode, Idle, Standby, Sleep, Diagnose, Nothing, Control, Packet, Unknown}
+use Rattle.hba_command.specs.declared.task.Task.TheVariants.{Queue, Read, Write, Verify, Mark, Flush, Identify, ReadLog, ReadPage, Store, Change, SmartStatus, NativeMax, PowerMode, Idle, Standby, Sleep, Diagnose, Nothing, Control, Packet, Unknown}
 
 -- a count of 0 means the most that the field can name and one
 abbrev pub counted : ℕ → ℕ → ℕ
@@ -152,6 +152,14 @@ multiple_task code f =
     else (if code == 0xCE then Write (long_span f) Multiple  -- WRITE MULTIPLE FUA EXT
     else settings_task code f)))))
 
+-- WRITE UNCORRECTABLE EXT, by its features: pseudo-uncorrectable sectors with logging (55h) and without (5Ah), flagged ones with logging (A5h) and without
+-- (AAh); other values are reserved
+abbrev pub marks_sectors : ℕ → Bool
+marks_sectors features = features == 0x55 || features == 0x5A || features == 0xA5 || features == 0xAA
+
+abbrev pub mark_task : H2dFields → Task
+mark_task f = if marks_sectors (f.features % 256) then Mark (long_span f) else Unknown
+
 -- by the code of a command that is not queued
 abbrev pub task_by : ℕ → H2dFields → Task
 task_by code f =
@@ -166,6 +174,7 @@ task_by code f =
     else (if code == 0x3D then Write (long_span f) Dma  -- WRITE DMA FUA EXT
     else (if code == 0x40 then Verify (short_span f)  -- READ VERIFY SECTOR(S)
     else (if code == 0x42 then Verify (long_span f)  -- READ VERIFY SECTOR(S) EXT
+    else (if code == 0x45 then mark_task f  -- WRITE UNCORRECTABLE EXT
     else (if code == 0x47 then log_task f Dma  -- READ LOG DMA EXT
     else (if code == 0x90 then Diagnose  -- EXECUTE DEVICE DIAGNOSTIC
     else (if code == 0xA1 then Packet  -- IDENTIFY PACKET DEVICE
@@ -179,7 +188,7 @@ task_by code f =
     else (if code == 0xEA then Flush Bits48  -- FLUSH CACHE EXT
     else (if code == 0xEC then Identify  -- IDENTIFY DEVICE
     else (if code == 0xF8 then NativeMax Bits28  -- READ NATIVE MAX ADDRESS
-    else multiple_task code f)))))))))))))))))))))))
+    else multiple_task code f))))))))))))))))))))))))
 
 -- a queued command, else one that is not
 abbrev pub command_task : H2dFields → Option QueuedFields → Task

@@ -59,6 +59,7 @@ pub fn action_of(task: &Task) -> Action
         Task::Read(span, protocol) => sectors(false, span, *protocol),
         Task::Write(span, protocol) => sectors(true, span, *protocol),
         Task::Verify(span) => Action::Reply(Reply::Verified(*span)),
+        Task::Mark(span) => Action::Reply(Reply::Marked(*span)),
         Task::Flush(addressing) => Action::Flush(*addressing),
         Task::Identify => Action::Page(Page::Identify, Protocol::Pio),
         Task::ReadLog(log, protocol) => Action::Page(Page::Log(*log), *protocol),

@@ -37,7 +37,7 @@ fn reply_addressing(reply: &Reply) -> Addressing
     ensures { result ≡ reply_addressing reply.now }
 {
     match reply {
-        Reply::Verified(span) => span.addressing,
+        Reply::Verified(span) | Reply::Marked(span) => span.addressing,
         Reply::NativeMax(addressing) => *addressing,
         Reply::Done | Reply::PowerMode | Reply::Entered(_) => Addressing::Bits28,
         Reply::Diagnosed | Reply::Packet | Reply::Changed(_) | Reply::SmartStatus =>

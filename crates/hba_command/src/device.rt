@@ -294,7 +294,8 @@ pub fn device_after_reply(reply: &Reply, device: &Device) -> Device
 {
     match reply {
         Reply::Changed(change) => after_change(device, change),
-        Reply::Done | Reply::Verified(_) | Reply::NativeMax(_) | Reply::PowerMode => *device,
+        Reply::Done | Reply::Verified(_) | Reply::Marked(_) | Reply::NativeMax(_) => *device,
+        Reply::PowerMode => *device,
         Reply::Entered(_) | Reply::Diagnosed | Reply::Packet | Reply::SmartStatus => *device,
     }
 }

@@ -81,7 +81,7 @@ fn capabilities_page(device: &Device) -> [u8; 512]
     ensures { result ≡ capabilities_page device.now }
 {
     let mut page = headed(0x03);
-    put_word(&mut page, 4, 0x1984);
+    put_word(&mut page, 4, 0x1986);
     put_word(&mut page, 5, capabilities(device));
     put_word(&mut page, 6, 0x0018);
     put_word(&mut page, 7, 0x8000);

@@ -30,6 +30,7 @@ mod span;
 mod store;
 mod task;
 mod tasks;
+mod uncorrectable;
 mod wide_name;
 mod words;
 
@@ -61,3 +62,4 @@ pub use span::Span;
 pub use store::{Store, blocks_of, leaves_disk};
 pub use task::Task;
 pub use tasks::task_of;
+pub use uncorrectable::Uncorrectable;

@@ -135,7 +135,7 @@ fn put_supported(page: &mut [u8; 512], device: &Device)
     put_word(page, 82, supported(device));
     put_word(page, 83, 0x7408); // FLUSH CACHE EXT, FLUSH CACHE, 48-bit addresses, Advanced Power Management
     put_word(page, 84, 0x4163); // a world wide name, WRITE DMA FUA EXT and WRITE MULTIPLE FUA EXT, general purpose logging, SMART self-test, SMART error logging
-    put_word(page, 119, 0x4008); // READ LOG DMA EXT
+    put_word(page, 119, 0x400C); // READ LOG DMA EXT, WRITE UNCORRECTABLE EXT
 }
 
 /// Puts those that are enabled now into a page.
@@ -146,7 +146,7 @@ fn put_enabled(page: &mut [u8; 512], device: &Device)
     put_word(page, 86, further_enabled(device));
     put_word(page, 87, 0x4163);
     put_word(page, 91, u16::from(device.power_level));
-    put_word(page, 120, 0x4008);
+    put_word(page, 120, 0x400C);
 }
 
 /// Puts further commands and logs that are supported into a page.

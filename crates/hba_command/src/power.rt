@@ -55,7 +55,7 @@ pub fn after_reply(reply: &Reply, power: Power) -> Power
 {
     match reply {
         Reply::Entered(mode) => *mode,
-        Reply::Verified(_) => Power::Active,
+        Reply::Verified(_) | Reply::Marked(_) => Power::Active,
         Reply::Done | Reply::NativeMax(_) | Reply::PowerMode | Reply::Diagnosed | Reply::Packet =>
             power,
         Reply::Changed(_) | Reply::SmartStatus => power,
@@ -67,7 +67,7 @@ fn reply_needs_medium(reply: &Reply) -> bool
     ensures { result ≡ reply_needs_medium reply.now }
 {
     match reply {
-        Reply::Verified(_) => true,
+        Reply::Verified(_) | Reply::Marked(_) => true,
         Reply::Entered(_) | Reply::Done | Reply::NativeMax(_) | Reply::PowerMode => false,
         Reply::Diagnosed | Reply::Packet | Reply::Changed(_) | Reply::SmartStatus => false,
     }

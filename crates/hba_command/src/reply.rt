@@ -10,6 +10,8 @@ pub enum Reply {
     Done,
     /// The sectors are on the disk, or not.
     Verified(Span),
+    /// The sectors are marked uncorrectable; they are not on the disk, or there is no room for their marks.
+    Marked(Span),
     /// The LBA of the last sector.
     NativeMax(Addressing),
     /// The count that tells the power mode.

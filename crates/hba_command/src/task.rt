@@ -18,6 +18,8 @@ pub enum Task {
     Write(Span, Protocol),
     /// READ VERIFY SECTOR(S), with EXT or without.
     Verify(Span),
+    /// WRITE UNCORRECTABLE EXT, of whatever kind of error.
+    Mark(Span),
     /// FLUSH CACHE, with EXT or without.
     Flush(Addressing),
     /// IDENTIFY DEVICE.

@@ -1,7 +1,7 @@
 //! The commands by their codes (ACS-3).
 
 ghost use Rattle.std.specs.Prelude.{◌≡◌, ◌%◌, ◌<◌, ◌^◌};
-ghost use Rattle.hba_command.specs.Task.{features_task, first_page, log_task, long_span, mode_task, multiple_task, offline_task, pages_in, settings_task, short_span, smart_log_task, smart_task, task_by, task_of, transfer_task};
+ghost use Rattle.hba_command.specs.Task.{features_task, first_page, log_task, long_span, mark_task, marks_sectors, mode_task, multiple_task, offline_task, pages_in, settings_task, short_span, smart_log_task, smart_task, task_by, task_of, transfer_task};
 
 use crate::addressing::Addressing;
 use crate::change::Change;
@@ -218,6 +218,24 @@ fn multiple_task(code: u8, h2d: &H2d) -> Task
     }
 }
 
+/// Whether WRITE UNCORRECTABLE EXT marks sectors with these features: pseudo-uncorrectable or flagged, with logging or without.
+fn marks_sectors(features: u16) -> bool
+    ensures { result ≡ marks_sectors features }
+{
+    matches!(features, 0x55 | 0x5A | 0xA5 | 0xAA)
+}
+
+/// WRITE UNCORRECTABLE EXT, by its features.
+fn mark_task(h2d: &H2d) -> Task
+    ensures { result ≡ mark_task h2d.now }
+{
+    if marks_sectors(h2d.features % 256) {
+        Task::Mark(long_span(h2d))
+    } else {
+        Task::Unknown
+    }
+}
+
 /// What a command of this code asks, where it is not queued.
 fn task_by(code: u8, h2d: &H2d) -> Task
     ensures { result ≡ task_by code h2d.now }
@@ -234,6 +252,7 @@ fn task_by(code: u8, h2d: &H2d) -> Task
         0x3D => Task::Write(long_span(h2d), Protocol::Dma), // WRITE DMA FUA EXT
         0x40 => Task::Verify(short_span(h2d)), // READ VERIFY SECTOR(S)
         0x42 => Task::Verify(long_span(h2d)), // READ VERIFY SECTOR(S) EXT
+        0x45 => mark_task(h2d), // WRITE UNCORRECTABLE EXT
         0x47 => log_task(h2d, Protocol::Dma), // READ LOG DMA EXT
         0x90 => Task::Diagnose, // EXECUTE DEVICE DIAGNOSTIC
         0xA1 => Task::Packet, // IDENTIFY PACKET DEVICE

@@ -1,3 +1,5 @@
 pub mod Walks
 pub mod OverLemmas
+pub mod PluggingLemmas
 pub mod SteppingLemmas
+pub mod LookingLemmas

@@ -6,4 +6,5 @@ pub mod Looking
 pub mod Calls
 pub mod Events
 pub mod Naming
+pub mod Plugging
 pub mod Judging

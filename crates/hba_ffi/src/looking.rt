@@ -71,8 +71,18 @@ fn step_number(step: Option<Step>) -> u8
     }
 }
 
-/// By slot, the number of the next step with its command.
+/// By slot, the number of the next step with its command: none while the driver's memory is read or written.
 fn next_steps<A: Allocator, S: SectorStore>(hba: &Hba<A, S>) -> [u8; 32]
+    ensures { (slot : ℕ) → slot < 32 → slice_index_or result slot 0 ≡ step_number (next_step hba.now slot) }
+{
+    match hba.want() {
+        Want::Nothing => steps_by_slot(hba),
+        Want::Read | Want::Write => [0; 32],
+    }
+}
+
+/// The same, whatever the controller does with the driver's memory.
+fn steps_by_slot<A: Allocator, S: SectorStore>(hba: &Hba<A, S>) -> [u8; 32]
     ensures { (slot : ℕ) → slot < 32 → slice_index_or result slot 0 ≡ step_number (next_step hba.now slot) }
 {
     let mut steps = [0; 32];

@@ -35,7 +35,7 @@ fn is_rotation(rotation: u32) -> bool
 }
 
 /// Whether C names a disk so that IDENTIFY DEVICE can tell it.
-fn is_identity(flat: &FlatIdentity) -> bool
+pub(crate) fn is_identity(flat: &FlatIdentity) -> bool
     ensures { result ≡ is_identity flat.now }
 {
     is_text(&flat.serial)
@@ -45,7 +45,7 @@ fn is_identity(flat: &FlatIdentity) -> bool
 }
 
 /// What C names a disk.
-fn identity_of(flat: &FlatIdentity) -> Identity
+pub(crate) fn identity_of(flat: &FlatIdentity) -> Identity
     requires { is_identity flat.now ≡ true }
     ensures { result ≡ identity_of flat.now }
 {

@@ -5,10 +5,10 @@ use Rattle.std.proofs.lemmas.List.{drop_all, drop-drop, drop_min, drop_more, dro
 use Rattle.hba_command.specs.declared.entry.PrdEntry.{PrdEntry}
 use Rattle.hba_memory.specs.Blocks.{BlocksView, list_after, no_entry, shortened}
 
-past_entry : (e : PrdEntry) (rest : List PrdEntry) (n : ℕ) → e.length ≤ n → list_after (e ∷ rest) n ≡ list_after rest (n - e.length)
+pub past_entry : (e : PrdEntry) (rest : List PrdEntry) (n : ℕ) → e.length ≤ n → list_after (e ∷ rest) n ≡ list_after rest (n - e.length)
 past_entry e rest n h = rw (le-ltb n e.length h) refl
 
-within_entry : (e : PrdEntry) (rest : List PrdEntry) (n : ℕ) → n < e.length → list_after (e ∷ rest) n ≡ shortened e n ∷ rest
+pub within_entry : (e : PrdEntry) (rest : List PrdEntry) (n : ℕ) → n < e.length → list_after (e ∷ rest) n ≡ shortened e n ∷ rest
 within_entry e rest n h = rw (lt-ltb n e.length h) refl
 
 -- an entry more is behind

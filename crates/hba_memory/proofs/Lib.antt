@@ -1,3 +1,4 @@
 pub mod BlockLemmas
 pub mod FetchLemmas
+pub mod ProcessingLemmas
 pub mod RunLemmas

@@ -18,7 +18,7 @@ positive (suc n) h = omega arith
 
 -- an entry of no bytes, for places after the last one
 abbrev pub no_entry : PrdEntry
-no_entry = record { address = 0; length = 0 }
+no_entry = record { address = 0; length = 0; interrupt = false }
 
 not_zero : (n : ℕ) → 0 < n → nat_eq n 0 ≡ false
 not_zero zero h = absurd (omega arith)

@@ -1,17 +1,18 @@
--- How a command's data go to the driver one block after the other, by PIO (ACS-3, "PIO data-in command protocol"): a block has so many sectors.
-use Rattle.std.specs.Prelude.{ℕ, ◌+◌, ◌-◌, ◌*◌, List, [], ◌∷◌, take, drop, nat_lt, if◌then◌else◌}
+-- How a command's data move one block after the other, by PIO (ACS-3, "PIO data-in command protocol" and "PIO data-out command protocol"): a block has so
+-- many sectors. A write's list is passed alone: its data are with the device.
+use Rattle.std.specs.Prelude.{ℕ, ◌+◌, ◌-◌, ◌*◌, false, List, [], ◌∷◌, take, drop, nat_lt, if◌then◌else◌}
 use Rattle.hba_command.specs.declared.entry.PrdEntry.{PrdEntry}
 use Rattle.hba_memory.specs.Runs.{Put, placed}
 use Rattle.hba_memory.specs.Table.{wrapped}
 
--- the bytes that are left, and the runs that they go to
+-- the bytes that are left, and the runs that they go to, or come from
 pub record BlocksView : Type 0 where
   pub list : List PrdEntry
   pub bytes : List ℕ
 
--- an entry behind its first bytes
+-- an entry behind its first bytes, with its I
 abbrev pub shortened : PrdEntry → ℕ → PrdEntry
-shortened e n = record { address = wrapped (e.address + n); length = e.length - n }
+shortened e n = record { address = wrapped (e.address + n); length = e.length - n; interrupt = e.interrupt }
 
 -- a list behind so many bytes; a run that has more of them is split
 abbrev pub list_after : List PrdEntry → ℕ → List PrdEntry
@@ -34,4 +35,4 @@ after_block b n = record { list = list_after b.list (512 * n); bytes = drop (512
 
 -- an entry of no bytes, for places after the last one
 abbrev pub no_entry : PrdEntry
-no_entry = record { address = 0; length = 0 }
+no_entry = record { address = 0; length = 0; interrupt = false }

@@ -1,4 +1,5 @@
 pub mod Runs
+pub mod Processing
 pub mod Gathering
 pub mod Table
 pub mod Blocks

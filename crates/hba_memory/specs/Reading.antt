@@ -32,7 +32,7 @@ is_write t = action.is_write (action_of t)
 abbrev pub read_by : Task → ℕ
 read_by t = if is_write t then moved_by t else 0
 
--- how far a command is read, and what comes next; the truth value is C of its header
+-- how far a command is read, and what comes next; the truth value is C of its header. All of it is its PRDT and, of a write, its data
 pub data ReadingView : Type 0 where
   Header : (place : ℕ) → ReadingView
   Command : CommandHeader → ReadingView
@@ -77,7 +77,7 @@ abbrev pub after_list : Task → Bool → List PrdEntry → ReadingView
 after_list t c list =
     if not (is_write t) then Whole t c list []
     else if is_short t list then Short c
-    else Content t c (record { runs = runs list (moved_by t); bytes = [] })
+    else Content t c (record { list = list; runs = runs list (moved_by t); bytes = [] })
 
 -- the command FIS is read: the PRDT comes next if the command moves data and there is one
 abbrev pub after_task : CommandHeader → Task → ReadingView
@@ -108,14 +108,14 @@ abbrev pub is_none : List Run → Bool
 is_none runs = length runs == 0
 
 abbrev pub after_content : Task → Bool → Gathering → ReadingView
-after_content t c g = if is_none g.runs then Whole t c [] g.bytes else Content t c g
+after_content t c g = if is_none g.runs then Whole t c g.list g.bytes else Content t c g
 
 -- what is read after these bytes
 abbrev pub after_bytes : ReadingView → List ℕ → ReadingView
 after_bytes (Header place) bytes = after_header (header_at bytes)
 after_bytes (Command h) bytes = after_command h (command_fis bytes)
 after_bytes (Entries t c table room) bytes = after_entries t c (with_entries table bytes) room
-after_bytes (Content t c g) bytes = after_content t c (record { runs = later_runs g.runs; bytes = g.bytes ++ bytes })
+after_bytes (Content t c g) bytes = after_content t c (record { list = g.list; runs = later_runs g.runs; bytes = g.bytes ++ bytes })
 after_bytes other bytes = other
 
 -- memory is allocated with these bytes: with the command FIS of a command that moves data

@@ -1,9 +1,10 @@
-//! The data of a command that reads by PIO, which go to the driver block by block.
+//! The data of a command by PIO, which move block by block.
 
 ghost use Rattle.std.specs.Prelude.{◌≡◌, ◌≤◌, ◌<◌, drop, get_or, length};
 ghost use Rattle.hba_memory.specs.Blocks.{list_after, no_entry, shortened};
 
 use crate::lengths::total;
+use crate::processing::has_processed;
 use crate::scatter::Scatter;
 use hba_command::PrdEntry;
 use std::alloc::{AllocError, Allocator, Global};
@@ -12,8 +13,8 @@ use std::marker::Model;
 /// As many entries have room for a sector: each names two bytes at least.
 const SECTOR_ENTRIES: usize = 256;
 
-/// The data of a command that reads by PIO, on their way to the runs of its PRDT, block by block. Contracts see the bytes that are left
-/// and the runs that they go to.
+/// The data of a command by PIO, on their way to the runs of its PRDT, block by block, or out of them, and then they are not here. Contracts see the
+/// bytes that are left and the runs that they go to or come from.
 #[derive(Drop)]
 pub struct Blocks<A: Allocator = Global> {
     list: Vec<PrdEntry, A>,
@@ -58,6 +59,7 @@ fn shortened(entry: PrdEntry, bytes: u32) -> PrdEntry
     PrdEntry {
         address: entry.address.wrapping_add(u64::from(bytes)),
         length: entry.length - bytes,
+        interrupt: entry.interrupt,
     }
 }
 
@@ -85,10 +87,10 @@ fn pass<A: Allocator>(list: &mut Vec<PrdEntry, A>, start: usize, bytes: u32) -> 
 }
 
 impl<A: Allocator> Blocks<A> {
-    ghost use Rattle.std.specs.Prelude.{◌≡◌, ◌≤◌, length};
-    ghost use Rattle.hba_memory.specs.{Blocks.{after_block, block_list}, Runs.{total}};
+    ghost use Rattle.std.specs.Prelude.{◌≡◌, ◌≤◌, ◌*◌, length};
+    ghost use Rattle.hba_memory.specs.{Blocks.{after_block, block_list}, Processing.{has_processed}, Runs.{total}};
 
-    /// These bytes, to be written to the runs that the entries name.
+    /// These bytes, to be written to the runs that the entries name; none of a write.
     pub fn new(list: Vec<PrdEntry, A>, bytes: Vec<u8, A>) -> Self
         ensures list { result.list ≡ list.items }
         ensures bytes { result.bytes ≡ bytes.items }
@@ -118,7 +120,15 @@ impl<A: Allocator> Blocks<A> {
         total(self.block_list(sectors))
     }
 
-    /// The next block is written, of so many sectors.
+    /// Whether the next block, of so many sectors, has the last byte of an entry with I.
+    pub fn block_processes(&self, sectors: u32) -> bool
+        requires { sectors ≤ 65536 }
+        ensures { result ≡ has_processed (block_list self.now sectors) (512 * sectors) }
+    {
+        has_processed(self.block_list(sectors), 512 * sectors)
+    }
+
+    /// The next block has moved, of so many sectors.
     pub fn advance(&mut self, sectors: u32)
         requires { sectors ≤ 65536 }
         ensures { self.new ≡ after_block self.old sectors }

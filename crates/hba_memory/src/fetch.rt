@@ -162,20 +162,20 @@ fn with_entries<A: Allocator + Copy>(
 }
 
 /// What is read after a run of a write's data.
-fn with_content<A: Allocator + Copy>(
-    alloc: A,
+fn with_content<A: Allocator>(
     task: Task,
     clears: bool,
     gather: Gather<A>,
     bytes: &[u8],
 ) -> Reading<A>
     requires { length bytes.now ≡ (first_run gather.runs).length }
-    ensures { reading_of result ≡ after_content task clears (record { runs = later_runs gather.runs; bytes = gather.bytes ++ bytes.now }) }
+    ensures { reading_of result ≡ after_content task clears (record { list = gather.list; runs = later_runs gather.runs; bytes = gather.bytes ++ bytes.now }) }
 {
     let mut gather = gather;
     gather.supply(bytes);
     if gather.is_done() {
-        Reading::Whole(task, clears, Vec::new(alloc), gather.into_bytes())
+        let (list, bytes) = gather.into_parts();
+        Reading::Whole(task, clears, list, bytes)
     } else {
         Reading::Content(task, clears, gather)
     }
@@ -211,9 +211,7 @@ fn after_bytes<A: Allocator + Copy>(
         Reading::Entries(task, clears, table, room) => {
             Ok(with_entries(task, clears, table, room, bytes))
         }
-        Reading::Content(task, clears, gather) => {
-            Ok(with_content(alloc, task, clears, gather, bytes))
-        }
+        Reading::Content(task, clears, gather) => { Ok(with_content(task, clears, gather, bytes)) }
         over => Ok(over),
     }
 }

@@ -5,8 +5,8 @@ use hba_command::PrdEntry;
 use std::alloc::{Allocator, Global};
 use std::marker::Model;
 
-/// The data of a command that writes, on their way out of the runs of its PRDT. Contracts see the runs that are still to be read, the next
-/// one first, and the bytes that were read.
+/// The data of a command that writes, on their way out of the runs of its PRDT. Contracts see the PRDT, the runs that are still to be read, the
+/// next one first, and the bytes that were read.
 #[derive(Drop)]
 pub struct Gather<A: Allocator = Global> {
     list: Vec<PrdEntry, A>,
@@ -22,7 +22,7 @@ impl<A: Allocator> Model for Gather<A> {
 
     ghost Value = { Gathering };
 
-    ghost view = { λ g. record { runs = runs (drop g.next g.list.items) g.left; bytes = g.bytes.items } };
+    ghost view = { λ g. record { list = g.list.items; runs = runs (drop g.next g.list.items) g.left; bytes = g.bytes.items } };
 
     ghost invariant = { λ g. (g.next ≤ length g.list.items) × (vec_len g.bytes + g.left ≤ vec_capacity g.bytes) };
 }
@@ -33,6 +33,7 @@ impl<A: Allocator> Gather<A> {
 
     /// The first bytes of the data that lie in the runs which the entries name, as many as there is room for.
     pub fn over(list: Vec<PrdEntry, A>, room: Room<A>) -> Self
+        ensures list { result.list ≡ list.items }
         ensures runs { result.runs ≡ runs list.items room }
         ensures bytes { result.bytes ≡ [] }
     {
@@ -74,6 +75,7 @@ impl<A: Allocator> Gather<A> {
     /// Takes the bytes of the next run.
     pub fn supply(&mut self, bytes: &[u8])
         requires { length bytes.now ≡ (first_run self.old.runs).length }
+        ensures list { self.new.list ≡ self.old.list }
         ensures runs { self.new.runs ≡ later_runs self.old.runs }
         ensures bytes { self.new.bytes ≡ self.old.bytes ++ bytes.now }
     {
@@ -87,10 +89,11 @@ impl<A: Allocator> Gather<A> {
         self.next += 1;
     }
 
-    /// The bytes that were read.
-    pub fn into_bytes(self) -> Vec<u8, A>
-        ensures { result.items ≡ self.bytes }
+    /// The PRDT, and the bytes that were read.
+    pub fn into_parts(self) -> (Vec<PrdEntry, A>, Vec<u8, A>)
+        ensures list { result.0.items ≡ self.list }
+        ensures bytes { result.1.items ≡ self.bytes }
     {
-        self.bytes
+        (self.list, self.bytes)
     }
 }

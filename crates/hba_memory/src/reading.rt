@@ -15,8 +15,8 @@ pub enum Reading<A: Allocator = Global> {
     Entries(Task, bool, TableReader<A>, Room<A>),
     /// Bytes of a write's data, and C of the header.
     Content(Task, bool, Gather<A>),
-    /// Nothing: all of it is read. A command that reads has its list, which may be too short, one that writes
-    /// its data; and C of the header.
+    /// Nothing: all of it is read. A command that moves data has its list, which may be too short for a read; one that writes has
+    /// its data too; and C of the header.
     Whole(Task, bool, Vec<PrdEntry, A>, Vec<u8, A>),
     /// Nothing: it can't be sent, since CFL is not 5, A or B of the header is 1, or CFIS has no Register FIS - Host to Device.
     Malformed,

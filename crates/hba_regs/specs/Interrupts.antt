@@ -18,6 +18,9 @@ sdbs = 3
 abbrev pub ufs : ℕ
 ufs = 4
 
+abbrev pub dps : ℕ
+dps = 5
+
 abbrev pub pcs : ℕ
 pcs = 6
 

@@ -5,7 +5,7 @@
 use Rattle.std.specs.Prelude.{ℕ, ◌+◌, ◌%◌, Bool, true, not, ◌||◌, List, bit_and, bit_or, if◌then◌else◌}
 use Rattle.word_bits.specs.Places.{bits, has_place, with_place, without_place, minus}
 use Rattle.hba_regs.specs.HbaState.{HbaPort}
-use Rattle.hba_regs.specs.Interrupts.{dhrs, pss, sdbs, ofs, tfes, place_of, raised}
+use Rattle.hba_regs.specs.Interrupts.{dhrs, dps, pss, sdbs, ofs, tfes, place_of, raised}
 use Rattle.hba_regs.specs.Signatures.{signature_of, signed_status}
 use Rattle.hba_regs.specs.declared.device_kind.DeviceKind.{DeviceKind}
 use Rattle.hba_regs.specs.declared.fatal.Fatal.{Fatal}
@@ -152,3 +152,10 @@ pio_update e_status error i slot p =
 -- 3.3.5, OFS, 6.1.5 and 6.2.1)
 abbrev pub dr_overflow : HbaPort → HbaPort
 dr_overflow p = record p { is = with_place p.is ofs }
+
+-- ---- DR and DX, "Data Receive" and "Data Transmit"
+
+-- SetIntr of an entry of the PRDT: all of its data have moved, and its I is 1; SetIS and GenIntr follow. DPS is set, and nothing else changes (sections
+-- 3.3.5, DPS, 4.2.3.3 and 5.4.2)
+abbrev pub prd_set_intr : HbaPort → HbaPort
+prd_set_intr p = record p { is = with_place p.is dps }

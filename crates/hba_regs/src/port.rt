@@ -33,6 +33,8 @@ const SDBS: u8 = 3;
 
 const UFS: u8 = 4;
 
+const DPS: u8 = 5;
+
 const PCS: u8 = 6;
 
 const PRCS: u8 = 22;

@@ -1,6 +1,6 @@
 //! The rules, with their names, their sections and what it means to break them.
 
-ghost use Rattle.std.specs.Prelude.{◌≡◌};
+ghost use Rattle.std.specs.Prelude.{◌≡◌, ◌<◌};
 ghost use Rattle.hba_rules.specs.Rules.{name_of, number_of, section_of, verdict_of};
 
 use crate::verdict::Verdict;
@@ -106,9 +106,10 @@ impl Rule {
     /// How many rules there are. They are numbered from 0.
     pub const COUNT: u32 = 46;
 
-    /// The rule's number.
+    /// The rule's number, below `COUNT`.
     pub fn number(self) -> u32
-        ensures { result ≡ number_of self }
+        ensures value { result ≡ number_of self }
+        ensures small { result < 46 }
     {
         match self {
             Rule::StartWithoutReceiving => 0,

@@ -1,7 +1,8 @@
 //! How the answer to a command is put together.
 
-ghost use Rattle.std.specs.Prelude.{◌≡◌, ◌≤◌, ◌<◌, ◌^◌, not, true, IfErr, IfOk, OnErr, OnOk};
+ghost use Rattle.std.specs.Prelude.{◌≡◌, ◌≤◌, ◌<◌, ◌^◌, not, ◌||◌, true, IfErr, IfOk, OnErr, OnOk};
 ghost use Rattle.hba_memory.specs.Posting.{listed};
+ghost use Rattle.hba_memory.specs.Processing.{has_processed};
 ghost use Rattle.hba_memory.specs.Reading.{is_write};
 ghost use Rattle.ahci_table.specs.Fit.{IsFit};
 ghost use Rattle.ahci_hba.specs.Delivering.{answer_with, answered, beginning, beginning_by, bytes_for, closing, count_put, d2h_fis, delivered, dma_answer, done, finish_of, fis_ending, is_pio, page_answer, page_posting, queue_answer, queued_answer, queued_posting, read_answer, read_posting, received_put, sectors_answer, sends_data, served_answer, setup_fis, setup_put};
@@ -18,7 +19,7 @@ use crate::work::Work;
 use ahci_port::Window;
 use arrayvec::ArrayVec;
 use hba_command::{Action, PrdEntry, Protocol, Task, action_of, block_sectors};
-use hba_memory::{Blocks, Posting, Scatter, SmallPut, is_write, total};
+use hba_memory::{Blocks, Posting, Scatter, SmallPut, has_processed, is_write, total};
 use hba_regs::Slot;
 use sata_fis::{D2h, Fis, PioSetup};
 use sector_store::SectorStore;
@@ -186,17 +187,24 @@ impl<A: Allocator, S: SectorStore> Hba<A, S> {
     }
 
     /// The answer to a queued command that the port has done.
-    fn queued_answer(&mut self, slot: Slot, list: Vec<PrdEntry, A>, bytes: Vec<u8, A>, count: u32)
-        ensures { self.new ≡ queued_answer self.old slot list.items bytes.items count }
+    fn queued_answer(
+        &mut self,
+        slot: Slot,
+        list: Vec<PrdEntry, A>,
+        bytes: Vec<u8, A>,
+        whole: bool,
+        count: u32,
+    )
+        ensures { self.new ≡ queued_answer self.old slot list.items bytes.items whole count }
     {
-        let whole = fits(count, &list);
+        let processed = has_processed(&list, count);
         let bits = LastFis::Bits {
             status: 0x40,
             error: 0,
             sactive: 1 << slot.number(),
         };
         let posting = self.queued_posting(Scatter::new(list, bytes));
-        self.answer(posting, Ending::of(whole, bits));
+        self.answer(posting, Ending::of_data(whole, processed, bits));
     }
 
     /// The answer to a read by DMA, of so many bytes, with the FIS that ends it.
@@ -212,9 +220,10 @@ impl<A: Allocator, S: SectorStore> Hba<A, S> {
     {
         let whole = fits(count, &list);
         let moved = moved_to(count, &list);
+        let processed = has_processed(&list, count);
         let last = fis_ending(slot, &fis);
         let posting = self.read_posting(slot, Scatter::new(list, bytes), moved, fis);
-        self.answer(posting, Ending::of(whole, last));
+        self.answer(posting, Ending::of_data(whole, processed, last));
     }
 
     /// The answer with a page by PIO.
@@ -223,8 +232,10 @@ impl<A: Allocator, S: SectorStore> Hba<A, S> {
     {
         let whole = fits(512, &list);
         let moved = moved_to(512, &list);
+        let processed = has_processed(&list, 512);
+        let last = LastFis::Pio { slot };
         let posting = self.page_posting(slot, Scatter::new(list, page), moved);
-        self.answer(posting, Ending::of(whole, LastFis::Pio { slot }));
+        self.answer(posting, Ending::of_data(whole, processed, last));
     }
 
     /// A transfer by PIO begins, of so many sectors in blocks of at most so many.
@@ -265,17 +276,17 @@ impl<A: Allocator, S: SectorStore> Hba<A, S> {
 }
 
 impl<A: Allocator + Copy, S: SectorStore> Hba<A, S> {
-    /// The end of a command whose data have moved: PRDBC, and a D2H Register FIS.
-    pub(super) fn close(&mut self, slot: Slot, moved: u32, fis: D2h)
-        ensures { self.new ≡ closing self.old slot moved fis }
+    /// The end of a command whose data have moved, with the last byte of an entry with I or not: PRDBC, and a D2H Register FIS.
+    pub(super) fn close(&mut self, slot: Slot, moved: u32, processed: bool, fis: D2h)
+        ensures { self.new ≡ closing self.old slot moved processed fis }
     {
         let last = fis_ending(slot, &fis);
         let content = Scatter::new(Vec::new(self.alloc), Vec::new(self.alloc));
         let posting = self.read_posting(slot, content, moved, fis);
-        self.answer(posting, Ending::of(true, last));
+        self.answer(posting, Ending::of_data(true, processed, last));
     }
 
-    /// The answer to a queued command; a write has no list.
+    /// The answer to a queued command; the list of a write has room for its data.
     fn queue_answer(
         &mut self,
         slot: Slot,
@@ -286,7 +297,8 @@ impl<A: Allocator + Copy, S: SectorStore> Hba<A, S> {
     )
         ensures { self.new ≡ queue_answer self.old slot write list.items bytes.items count }
     {
-        self.queued_answer(slot, list, bytes, if write { 0 } else { count });
+        let whole = write || fits(count, &list);
+        self.queued_answer(slot, list, bytes, whole, count);
     }
 
     /// The answer to a command by DMA.
@@ -301,7 +313,7 @@ impl<A: Allocator + Copy, S: SectorStore> Hba<A, S> {
         ensures { self.new ≡ dma_answer self.old slot write list.items bytes.items count }
     {
         if write {
-            self.close(slot, count, done());
+            self.close(slot, count, has_processed(&list, count), done());
         } else {
             self.read_answer(slot, list, bytes, count, done());
         }
@@ -349,9 +361,9 @@ impl<A: Allocator + Copy, S: SectorStore> Hba<A, S> {
                 protocol,
             } => self.sectors_answer(slot, *protocol, *write, list, bytes, span.sectors),
             Action::Page(_, _) | Action::Flush(_) | Action::Reply(_) | Action::Control { .. } => {
-                self.close(slot, 0, done())
+                self.close(slot, 0, false, done())
             }
-            Action::Store(_, _) | Action::Abort => self.close(slot, 0, done()),
+            Action::Store(_, _) | Action::Abort => self.close(slot, 0, false, done()),
         }
     }
 

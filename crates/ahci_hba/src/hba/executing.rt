@@ -1,12 +1,12 @@
 //! What the device does with a command that is not queued (ACS-3, by the commands' titles).
 
-ghost use Rattle.std.specs.Prelude.{◌≡◌, ◌-◌, ◌<◌, ◌^◌, true, false, None, IfErr, OnErr, OnOk, slice_set};
+ghost use Rattle.std.specs.Prelude.{◌≡◌, ◌-◌, ◌<◌, ◌^◌, true, false, None, IfErr, IfSome, OnErr, OnOk, slice_set};
 ghost use Rattle.ahci_hba.specs.Queueing.{command_at, list_in, task_in};
 ghost use Rattle.ahci_hba.specs.Stepping.{fault_if, is_answered, is_answered_at, may_execute};
 ghost use Rattle.ahci_port.specs.{Faults.{plain_refusal}, PortView.{sectors_in}, Steps.{LacksRoom}};
-ghost use Rattle.ahci_hba.specs.Failing.{concluded};
+ghost use Rattle.ahci_hba.specs.Failing.{concluded, moves_some};
 ghost use Rattle.ahci_hba.specs.Keeping.{device_ended, keeping};
-ghost use Rattle.ahci_hba.specs.Executing.{Flushes, Identifies, IsExecuted, MayLack, MayLackAt, Performs, aborted, changed_fis, first_missing, is_aborted, is_alone_fetched, native_max, paged, reads_error_log, replied, reply_fis, signed, smart_fis, verified};
+ghost use Rattle.ahci_hba.specs.Executing.{Flushes, Identifies, IsExecuted, MayLack, MayLackAt, Performs, aborted, changed_fis, first_missing, found_all, is_aborted, is_alone_fetched, native_max, paged, reads_error_log, replied, reply_fis, signed, smart_fis, stopped, stops_at, verified};
 
 use crate::command::Command;
 use crate::fault::HbaFault;
@@ -47,8 +47,8 @@ impl<A: Allocator, S: SectorStore> Hba<A, S> {
     }
 
     /// The answer to a command that names sectors and moves nothing: IDNF names the first one that is not on the disk.
-    fn verified(&self, span: &Span) -> D2h
-        ensures { result ≡ verified self.now.port span.now }
+    pub(super) fn found_all(&self, span: &Span) -> D2h
+        ensures { result ≡ found_all self.now.port span.now }
     {
         if self.is_on(span) {
             return done();
@@ -58,6 +58,16 @@ impl<A: Allocator, S: SectorStore> Hba<A, S> {
             d2h_fis(0x41, 0x10, 0, 0),
             self.first_missing(span),
         ) // IDNF
+    }
+
+    /// The answer to a read that moves nothing: UNC names the first sector that is marked.
+    fn verified(&self, span: &Span) -> D2h
+        ensures { result ≡ verified self.now span.now }
+    {
+        match self.marked_on(span.lba, span.sectors) {
+            None => self.found_all(span),
+            Some(lba) => addressed(span.addressing, d2h_fis(0x41, 0x40, 0, 0), lba), // UNC
+        }
     }
 
     /// The LBA of the last sector, of 28 bits at most FFF_FFFFh.
@@ -102,6 +112,7 @@ impl<A: Allocator, S: SectorStore> Hba<A, S> {
         match reply {
             Reply::Done | Reply::Entered(_) => done(),
             Reply::Verified(span) => self.verified(span),
+            Reply::Marked(span) => self.marked_fis(span),
             Reply::NativeMax(addressing) => {
                 addressed(*addressing, done(), self.native_max(*addressing))
             }
@@ -151,7 +162,9 @@ impl<A: Allocator, S: SectorStore> Hba<A, S> {
     {
         match action {
             Action::Queue(queued) => self.is_failed() || !self.has_tag(queued),
-            Action::Sectors { span, .. } => self.is_aborted(action) || !self.is_on(span),
+            Action::Sectors { span, .. } => {
+                self.is_aborted(action) || !self.is_on(span) || self.marked_for(action).is_some()
+            }
             Action::Page(Page::Identify, _) | Action::Flush(_) => {
                 self.is_aborted(action) || self.port.plain_fault().is_none()
             }
@@ -247,7 +260,7 @@ impl<A: Allocator + Copy, S: SectorStore> Hba<A, S> {
         }
     }
 
-    /// A command that moves nothing is answered, for a slot, and the power mode is that behind it.
+    /// A command that moves nothing is answered, for a slot, and the power mode is that behind it, as are what the disk keeps and the marks.
     fn reply(&mut self, slot: Slot, reply: &Reply)
         ensures { self.new ≡ replied self.old slot reply.now }
     {
@@ -255,6 +268,30 @@ impl<A: Allocator + Copy, S: SectorStore> Hba<A, S> {
         self.conclude(slot, fis);
         self.turn_by(reply);
         self.change_by(reply);
+        self.mark_by(reply);
+    }
+
+    /// A command that moves sectors stops, for a slot: a read at the first marked one (UNC), or at the first one that is not on the disk (IDNF).
+    fn stop(
+        &mut self,
+        slot: Slot,
+        write: bool,
+        span: &Span,
+        protocol: Protocol,
+        marked: Option<u64>,
+    ) -> Result<(), HbaFault>
+        requires marked { IfSome marked (λ m. m < 2 ^ 48) }
+        ensures ok { OnOk result (self.new ≡ stopped self.old slot (list_in (command_at self.old slot)) write span.now protocol marked) }
+        ensures err { IfErr result (λ e. (e ≡ HbaFault.OutOfMemory) × (self.new ≡ self.old)) }
+        ensures lacking { OnErr result (moves_some self.old.port write span.now (stops_at self.old.port span.now marked) ≡ true) }
+    {
+        match marked {
+            None => {
+                let missing = self.first_missing(span);
+                self.fail_sectors(slot, write, span, protocol, 0x10, missing)
+            }
+            Some(lba) => self.fail_sectors(slot, write, span, protocol, 0x40, lba),
+        }
     }
 
     /// What the device does with a command that it doesn't abort, for a slot.
@@ -271,8 +308,8 @@ impl<A: Allocator + Copy, S: SectorStore> Hba<A, S> {
                 span,
                 protocol,
             } => {
-                let missing = self.first_missing(span);
-                self.fail_sectors(slot, *write, span, *protocol, 0x10, missing)?; // IDNF
+                let marked = self.marked_for(action);
+                self.stop(slot, *write, span, *protocol, marked)?;
                 self.wake();
                 Ok(())
             }
@@ -308,7 +345,7 @@ impl<A: Allocator + Copy, S: SectorStore> Hba<A, S> {
     }
 
     /// The device answers the command of a slot: it executes one that is not queued and that the port moves no sectors for, or it aborts the
-    /// command. A read past the last sector moves the sectors that there are. If queued commands are outstanding it aborts them too: none is taken, served or
+    /// command. A read of a marked sector, or past the last one, moves the sectors before it. If queued commands are outstanding it aborts them too: none is taken, served or
     /// sent any more, and each other command is aborted until log 10h is read or a reset comes (ACS-3, "Native Command Queuing").
     ///
     /// # Errors

@@ -20,7 +20,7 @@ use ahci_port::Port;
 use hba_command::{
     Action, Addressing, Device, PrdEntry, Protocol, Span, addressed, addressing_of, after_ending,
 };
-use hba_memory::{Blocks, Posting, Scatter, SmallPut};
+use hba_memory::{Blocks, Posting, Scatter, SmallPut, has_processed};
 use hba_regs::Slot;
 use sata_fis::{D2h, DmaSetup, Fis, Queued};
 use sector_store::SectorStore;
@@ -285,13 +285,14 @@ impl<A: Allocator + Copy, S: SectorStore> Hba<A, S> {
         ensures { self.new ≡ failure_answered self.old self.old.port slot queued.now list.items bytes.items sectors error }
     {
         let whole = sectors == 0 || fits(512 * sectors, &list);
+        let processed = has_processed(&list, 512 * sectors);
         let bits = LastFis::Bits {
             status: 0x41,
             error,
             sactive: 0,
         };
         let posting = self.failed_posting(slot, queued, list, bytes, sectors);
-        self.answer(posting, Ending::of(whole, bits));
+        self.answer(posting, Ending::of_data(whole, processed, bits));
     }
 
     /// The disk behind a queued command that has failed.

@@ -1,7 +1,7 @@
 //! How the controller reads and writes the driver's memory: it says what comes next, and is told once it is done.
 
 ghost use Rattle.std.specs.Prelude.{◌≡◌, true, length, OnErr, OnOk};
-ghost use Rattle.ahci_hba.specs.{HbaView.{command_of, work_of}, Moving.{address_of, allocates_with, block_ended, ended, ended_by, failed_fatally, host_failed, overflowed, place_of, placed_in, put_done, put_next, read_so_far, run_read, spoiled, stuck_with, supplied, unmapped, want_of}};
+ghost use Rattle.ahci_hba.specs.{HbaView.{command_of, work_of}, Moving.{address_of, allocates_with, block_ended, ended, ended_by, failed_fatally, host_failed, overflowed, place_of, placed_in, processed, put_done, put_next, read_so_far, run_read, spoiled, stuck_with, supplied, unmapped, want_of}};
 ghost use Rattle.ahci_hba.specs.States.{IsSoundWork};
 
 use crate::command::{Command, Listed};
@@ -57,11 +57,21 @@ fn overflow(registers: &mut HbaRegs, overflow: bool)
     }
 }
 
+/// What data with the last byte of an entry with I do to the registers.
+fn process(registers: &mut HbaRegs, processes: bool)
+    ensures { registers.new ≡ processed registers.old processes }
+{
+    if processes {
+        registers.process_descriptor();
+    }
+}
+
 /// What the end of an answer does to the registers.
 pub(super) fn end(registers: &mut HbaRegs, ending: Ending)
     ensures { registers.new ≡ ended registers.old ending }
 {
     overflow(registers, ending.overflow);
+    process(registers, ending.processed);
     end_by(registers, ending.fis);
 }
 
@@ -72,6 +82,7 @@ pub(super) fn end_block<A: Allocator>(registers: &mut HbaRegs, transfer: &Transf
     ensures { registers.new ≡ block_ended registers.old transfer.now }
 {
     overflow(registers, transfer.is_short());
+    process(registers, transfer.has_processed());
     registers.receive_pio(0x48); // DRDY and DRQ
     registers.end_pio(0xC0, 0x00, transfer.has_interrupt(), transfer.slot()); // BSY and DRDY
 }

@@ -1,11 +1,12 @@
 //! What the device does with a queued command: it takes it, serves it or fails it (AHCI 1.3.1, section 5.3; Serial ATA, "First-party DMA").
 
-ghost use Rattle.std.specs.Prelude.{◌≡◌, ◌<◌, false, true, None, IfErr, OnOk, slice_set};
+ghost use Rattle.std.specs.Prelude.{◌≡◌, ◌<◌, false, true, None, IfErr, OnOk, is_some, slice_set};
 ghost use Rattle.ncq_journal.specs.{Phase.{phase}, Request.{request}};
 ghost use Rattle.ahci_port.specs.Faults.{is_of_request};
-ghost use Rattle.ahci_hba.specs.Queueing.{IsAccepted, IsServed, accepting, after_acceptance, command_at, has_alone, has_queued, is_taken, list_in, task_in};
+ghost use Rattle.ahci_table.specs.Fit.{IsFit};
+ghost use Rattle.ahci_hba.specs.Queueing.{IsAccepted, IsServed, accepting, after_acceptance, command_at, handed_over, has_alone, has_queued, is_taken, list_in, task_in};
 ghost use Rattle.ahci_hba.specs.Failing.{Fails, FailsRequest, own_in};
-ghost use Rattle.ahci_hba.specs.Stepping.{RefusesFor, is_taken_up, is_waiting, may_accept, may_fail, may_serve};
+ghost use Rattle.ahci_hba.specs.Stepping.{RefusesFor, Serves, fault_if, is_taken_up, is_waiting, marked_at, may_accept, may_fail, may_serve};
 
 use crate::command::Command;
 use crate::ending::Ending;
@@ -15,7 +16,7 @@ use crate::hba::answering::REGISTER;
 use crate::hba::failing::{fails_at, own_queued};
 use crate::last_fis::LastFis;
 use crate::work::Work;
-use ahci_port::{DeviceStep, Phase, Stepped};
+use ahci_port::{DeviceStep, Phase, Stepped, Window};
 use hba_command::{PrdEntry, Task, action_of};
 use hba_regs::Slot;
 use sector_store::SectorStore;
@@ -99,18 +100,43 @@ impl<A: Allocator + Copy, S: SectorStore> Hba<A, S> {
     }
 
     /// The device moves the data of the command of a slot and completes it; its answer is taken from the port. It stands
-    /// in the controller until `deliver` puts it together. Nothing is allocated.
+    /// in the controller until `deliver` puts it together. A queued read that finds a sector marked by WRITE UNCORRECTABLE EXT fails there, as by `fail` with
+    /// UNC; nothing else is allocated for.
     ///
     /// # Errors
-    /// `NotReady` exactly if `may_serve` is false.
+    /// `NotReady` exactly if `may_serve` is false; else `OutOfMemory` if a read finds a marked sector and an allocation failed, and it can be tried again.
+    /// Nothing has changed.
     pub fn serve(&mut self, slot: Slot) -> Result<(), HbaFault>
         ensures ready { OnOk result (may_serve self.old slot ≡ true) }
-        ensures ok { OnOk result (IsServed slot (task_in (command_at self.old slot)) (list_in (command_at self.old slot)) self.old self.new) }
-        ensures err { IfErr result (λ e. (e ≡ HbaFault.NotReady) × (may_serve self.old slot ≡ false) × (self.new ≡ self.old)) }
+        ensures ok { OnOk result (Serves slot self.old self.new) }
+        ensures err { IfErr result (λ e. (e ≡ fault_if (may_serve self.old slot)) × (self.new ≡ self.old)) }
+        ensures lacking { IfErr result (λ e. e ≡ HbaFault.OutOfMemory → is_some (marked_at self.old slot) ≡ true) }
     {
         if !self.may_serve(slot) {
             return Err(HbaFault::NotReady);
         }
+        if self.fail_marked(slot)? {
+            return Ok(());
+        }
+        self.complete(slot);
+        Ok(())
+    }
+
+    /// The answer to the command of a slot, in this window, waits to be put together; what it has written is not marked any more.
+    fn hand_over(&mut self, slot: Slot, window: Window<A>)
+        requires { IsFit window }
+        ensures { self.new ≡ handed_over self.old slot window }
+    {
+        let (task, list) = self.take_command(slot);
+        self.clear_behind(&action_of(&task));
+        self.turn_to(Work::Served(slot, task, window, list));
+    }
+
+    /// The device moves the data of the command of a slot, which it may serve, and completes it.
+    fn complete(&mut self, slot: Slot)
+        requires taken { may_serve self.old slot ≡ true }
+        ensures { IsServed slot (task_in (command_at self.old slot)) (list_in (command_at self.old slot)) self.old self.new }
+    {
         self.port.keeps_its_promise();
         let tag = slot.number();
         let Some(number) = self.port.owner(tag) else {
@@ -122,9 +148,7 @@ impl<A: Allocator + Copy, S: SectorStore> Hba<A, S> {
         let Ok((_, window)) = self.port.collect(tag, number) else {
             unreachable!() // it is done
         };
-        let (task, list) = self.take_command(slot);
-        self.turn_to(Work::Served(slot, task, window, list));
-        Ok(())
+        self.hand_over(slot, window);
     }
 
     /// The device takes the command of a slot, or refuses it if it passes the last sector, and is Active then. Of a queued one a D2H Register FIS

@@ -123,14 +123,17 @@ impl<A: Allocator, S: SectorStore> Hba<A, S> {
     }
 
     /// Whether the port moves sectors for a command: a queued one whose tag the device has, or one of sectors of the disk while no queued one is
-    /// outstanding, whose blocks have a size.
+    /// outstanding, whose blocks have a size, and that reads no marked sector.
     fn moves_sectors(&self, action: &Action) -> bool
         ensures { result ≡ moves_sectors self.now action.now }
     {
         match action {
             Action::Queue(queued) => self.has_tag(queued),
             Action::Sectors { span, .. } => {
-                self.is_on(span) && !self.is_queueing() && !self.has_no_blocks(action)
+                self.is_on(span)
+                    && !self.is_queueing()
+                    && !self.has_no_blocks(action)
+                    && self.marked_for(action).is_none()
             }
             Action::Page(_, _) | Action::Flush(_) | Action::Reply(_) | Action::Control { .. } =>
                 false,
@@ -139,7 +142,7 @@ impl<A: Allocator, S: SectorStore> Hba<A, S> {
     }
 
     /// Whether the command of a slot goes to the port: it is read, and is queued with a tag that the device has, or moves sectors of the
-    /// disk while no queued one is outstanding, and is not READ or WRITE MULTIPLE without a block size.
+    /// disk while no queued one is outstanding, and is not READ or WRITE MULTIPLE without a block size or a read of a marked sector.
     pub fn goes_to_port(&self, slot: Slot) -> bool
         ensures { result ≡ goes_to_port self.now (command_at self.now slot) }
     {

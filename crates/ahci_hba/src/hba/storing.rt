@@ -1,14 +1,14 @@
 //! What the device does with data that are no sectors (ACS-3, "WRITE BUFFER", "WRITE BUFFER DMA" and "DATA SET MANAGEMENT").
 
 ghost use Rattle.std.specs.Prelude.{◌≡◌, ◌≤◌, None, slice_set};
-ghost use Rattle.ahci_hba.specs.Queueing.{command_at};
+ghost use Rattle.ahci_hba.specs.Queueing.{command_at, list_in};
 ghost use Rattle.ahci_hba.specs.Storing.{content_in, store_fis, stored, taken_by};
 
 use crate::command::Command;
 use crate::hba::Hba;
 use crate::hba::delivering::{d2h_fis, done};
-use hba_command::{Protocol, Store, after_store, blocks_of, leaves_disk};
-use hba_memory::Blocks;
+use hba_command::{PrdEntry, Protocol, Store, after_store, blocks_of, leaves_disk};
+use hba_memory::{Blocks, has_processed};
 use hba_regs::Slot;
 use sata_fis::D2h;
 use sector_store::SectorStore;
@@ -31,42 +31,53 @@ impl<A: Allocator, S: SectorStore> Hba<A, S> {
 }
 
 impl<A: Allocator + Copy, S: SectorStore> Hba<A, S> {
-    /// Takes the data of the command of a slot, and leaves the slot empty.
-    fn take_content(&mut self, slot: Slot) -> Vec<u8, A>
-        ensures bytes { result.items ≡ content_in (command_at self.old slot) }
+    /// Takes the list and the data of the command of a slot, and leaves the slot empty.
+    fn take_content(&mut self, slot: Slot) -> (Vec<PrdEntry, A>, Vec<u8, A>)
+        ensures list { result.0.items ≡ list_in (command_at self.old slot) }
+        ensures bytes { result.1.items ≡ content_in (command_at self.old slot) }
         ensures slots { self.new ≡ record self.old { slots = slice_set self.old.slots slot None } }
     {
         match self.slots[slot.index()].take() {
             Some(taken) => match taken.command {
-                Command::Fetched(_, _, bytes) => bytes,
-                Command::Sent(_, _) => Vec::new(self.alloc),
+                Command::Fetched(_, list, bytes) => (list, bytes),
+                Command::Sent(_, list) => (list, Vec::new(self.alloc)),
             },
-            None => Vec::new(self.alloc),
+            None => (Vec::new(self.alloc), Vec::new(self.alloc)),
         }
     }
 
-    /// The answer to so many blocks that have gone to the device.
-    fn take_by(&mut self, slot: Slot, protocol: Protocol, blocks: u32, fis: D2h)
+    /// The answer to so many blocks that have gone to the device from the runs of a list.
+    fn take_by(
+        &mut self,
+        slot: Slot,
+        protocol: Protocol,
+        list: Vec<PrdEntry, A>,
+        blocks: u32,
+        fis: D2h,
+    )
         requires { blocks ≤ 255 }
-        ensures { self.new ≡ taken_by self.old slot protocol blocks fis }
+        ensures { self.new ≡ taken_by self.old slot protocol list.items blocks fis }
     {
         match protocol {
             Protocol::Pio | Protocol::Multiple => {
-                let none = Blocks::new(Vec::new(self.alloc), Vec::new(self.alloc));
-                self.begin(slot, true, blocks, 1, none, Some(fis));
+                let rest = Blocks::new(list, Vec::new(self.alloc));
+                self.begin(slot, true, blocks, 1, rest, Some(fis));
             }
-            Protocol::Dma => self.close(slot, 512 * blocks, fis),
+            Protocol::Dma => {
+                let processed = has_processed(&list, 512 * blocks);
+                self.close(slot, 512 * blocks, processed, fis);
+            }
         }
     }
 
     /// The device takes the data of the command of a slot.
     pub(super) fn store(&mut self, slot: Slot, store: &Store, protocol: Protocol)
-        ensures { self.new ≡ stored self.old slot store.now protocol (content_in (command_at self.old slot)) }
+        ensures { self.new ≡ stored self.old slot store.now protocol (list_in (command_at self.old slot)) (content_in (command_at self.old slot)) }
     {
-        let bytes = self.take_content(slot);
+        let (list, bytes) = self.take_content(slot);
         let fis = self.store_fis(store, &bytes);
         let device = after_store(store, &self.device, &bytes);
         self.keep(device);
-        self.take_by(slot, protocol, blocks_of(store), fis);
+        self.take_by(slot, protocol, list, blocks_of(store), fis);
     }
 }

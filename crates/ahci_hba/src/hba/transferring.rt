@@ -38,7 +38,9 @@ impl<A: Allocator, S: SectorStore> Hba<A, S> {
         let slot = transfer.slot();
         if transfer.is_last() {
             let posting = self.block_posting(&transfer, content, 0x40);
-            self.answer(posting, Ending::of(transfer.fits(), LastFis::Pio { slot }));
+            let last = LastFis::Pio { slot };
+            let processed = transfer.next_processes();
+            self.answer(posting, Ending::of_data(transfer.fits(), processed, last));
         } else {
             let posting = self.block_posting(&transfer, content, 0xC0);
             self.block(posting, next_of(transfer));
@@ -94,7 +96,7 @@ impl<A: Allocator + Copy, S: SectorStore> Hba<A, S> {
         ensures { self.new ≡ finishing self.old transfer transfer.finish }
     {
         match transfer.finish() {
-            Some(fis) => self.close(transfer.slot(), transfer.moved(), fis),
+            Some(fis) => self.close(transfer.slot(), transfer.moved(), false, fis),
             None => self.turn_to(Work::Idle),
         }
     }

@@ -1,7 +1,7 @@
 //! What the device's FISes and errors do to the registers. Each ends as a write does: IS.IPS is set if an interrupt is pending.
 
 ghost use Rattle.std.specs.Prelude.{◌≡◌, true};
-ghost use Rattle.hba_regs.specs.PortStates.{cfis_success, dr_overflow, err_fatal, p_select_cmd, pio_entry, pio_update, reg_fis_entry, reg_fis_unsolicited, sdb_entry, stuck};
+ghost use Rattle.hba_regs.specs.PortStates.{cfis_success, dr_overflow, err_fatal, p_select_cmd, pio_entry, pio_update, prd_set_intr, reg_fis_entry, reg_fis_unsolicited, sdb_entry, stuck};
 ghost use Rattle.hba_regs.specs.Receiving.{after_srst_cleared, after_srst_set, moved, signature_moves, signed};
 
 use super::HbaRegs;
@@ -86,6 +86,14 @@ impl HbaRegs {
         ensures { self.new ≡ moved self.old (dr_overflow self.old.port) }
     {
         self.port.overflow();
+        self.pending = self.pending || self.port.is_pending();
+    }
+
+    /// Takes that an entry of a PRDT whose I is 1 has transferred all of its data (sections 3.3.5, DPS, 4.2.3.3 and 5.4.2): DPS is set.
+    pub fn process_descriptor(&mut self)
+        ensures { self.new ≡ moved self.old (prd_set_intr self.old.port) }
+    {
+        self.port.process_descriptor();
         self.pending = self.pending || self.port.is_pending();
     }
 

@@ -3,10 +3,10 @@
 ghost use Rattle.std.specs.Prelude.{◌≡◌, ◌≢◌, ◌<◌};
 ghost use Rattle.word_bits.specs.Places.{bits, minus, with_place, without_place};
 ghost use Rattle.hba_regs.specs.Interrupts.{place_of, raised};
-ghost use Rattle.hba_regs.specs.PortStates.{bsy_or_drq_of, cfis_success, dr_overflow, ended_by_signature, err_fatal, err_fatal_taskfile, err_of, p_reg_fis_update, p_select_cmd, pio_entry, pio_update, reg_fis_entry, reg_fis_unsolicited, sdb_entry, stuck};
+ghost use Rattle.hba_regs.specs.PortStates.{bsy_or_drq_of, cfis_success, dr_overflow, ended_by_signature, err_fatal, err_fatal_taskfile, err_of, p_reg_fis_update, p_select_cmd, pio_entry, pio_update, prd_set_intr, reg_fis_entry, reg_fis_unsolicited, sdb_entry, stuck};
 ghost use Rattle.hba_regs.specs.Receiving.{after_srst_cleared, after_srst_set, signed};
 
-use super::{DHRS, OFS, PSS, Port, SDBS, TFES, raised};
+use super::{DHRS, DPS, OFS, PSS, Port, SDBS, TFES, raised};
 use crate::device_kind::DeviceKind;
 use crate::fatal::Fatal;
 use crate::signature::Signature;
@@ -107,6 +107,13 @@ impl Port {
         ensures { self.new ≡ dr_overflow self.old }
     {
         self.raise(OFS, true);
+    }
+
+    /// An entry of a PRDT with I has transferred all of its data.
+    pub fn process_descriptor(&mut self)
+        ensures { self.new ≡ prd_set_intr self.old }
+    {
+        self.raise(DPS, true);
     }
 
     /// The commands of a Set Device Bits FIS are done: PxSACT loses their slots.

@@ -13,7 +13,7 @@ use std::test::Fail;
 type Answered = ([u32; 4], u8, u8, u8, u8);
 
 /// Commands to a disk of 8 sectors, by their titles. None of them moves data.
-static ANSWERS: [(&str, Answered); 44] = [
+static ANSWERS: [(&str, Answered); 48] = [
     ("FLUSH CACHE", ([0x2780_E700, 0, 0, 0], 0x40, 0, 0, 0)),
     (
         "FLUSH CACHE EXT",
@@ -107,8 +107,24 @@ static ANSWERS: [(&str, Answered); 44] = [
         ([0x2780_3700, 0x0600_0040, 0, 0], 0x41, 4, 0, 0),
     ),
     (
+        "WRITE UNCORRECTABLE EXT with features that are reserved",
+        ([0x2780_4554, 0x0600_0040, 0, 0x0100_0000], 0x41, 4, 0, 0),
+    ),
+    (
+        "WRITE UNCORRECTABLE EXT past the end",
+        ([0x2780_4555, 0x0600_0040, 0, 0x0300_0000], 0x41, 0x10, 8, 0),
+    ),
+    (
+        "WRITE UNCORRECTABLE EXT of 65,536 sectors",
+        ([0x2780_4555, 0x0000_0040, 0, 0], 0x41, 0x10, 8, 0),
+    ),
+    (
         "WRITE UNCORRECTABLE EXT",
-        ([0x2780_4555, 0x0600_0040, 0, 0x0100_0000], 0x41, 4, 0, 0),
+        ([0x2780_45AA, 0x0600_0040, 0, 0x0100_0000], 0x40, 0, 0, 0),
+    ),
+    (
+        "READ VERIFY SECTOR(S) of a sector that is marked uncorrectable",
+        ([0x2780_4000, 0x0400_0040, 0, 0x0400_0000], 0x41, 0x40, 6, 0),
     ),
     ("NOP", ([0x2780_0000, 0, 0, 0], 0x41, 4, 0, 0)),
     (

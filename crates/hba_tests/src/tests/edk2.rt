@@ -37,7 +37,7 @@ pub static STORY: Story = Story {
     ],
 };
 
-/// Where the commands are, and the data. Each entry has its I bit set.
+/// Where the commands are, and the data. Each entry has its I bit set, so its data set DPS.
 const TABLE: u64 = 0x1E5F_D000;
 
 const ONE: Pieces = These(&[(0x1E5F_E000, 0x8000_0200)]);
@@ -116,7 +116,7 @@ const IDENTIFIED: &[Row] = &[
     Lays(0, 0x0001_0005, TABLE, [0x2780_EC00, 0x0000_00E0, 0, 0], ONE),
     Writes(PX_CI, 1),
     Does(0),
-    Reads(PX_IS, 2),
+    Reads(PX_IS, 0x22),
     Has(0x1E5F_F004, &[0, 2, 0, 0]),
     Has(0x1E5F_E000 + 2 * 53, &[0x06, 0x00]),
     Has(0x1E5F_E000 + 2 * 88, &[0x3F, 0x20]),
@@ -147,7 +147,7 @@ const WRITTEN: &[Row] = &[
     ),
     Writes(PX_CI, 1),
     Does(0),
-    Reads(PX_IS, 1),
+    Reads(PX_IS, 0x21),
     Sector(7, 0x11),
     Sector(8, 0x22),
 ];
@@ -163,7 +163,7 @@ const READ: &[Row] = &[
     ),
     Writes(PX_CI, 1),
     Does(0),
-    Reads(PX_IS, 1),
+    Reads(PX_IS, 0x21),
     HasAll(0x1E5F_E000, 512, 0x22),
     HasAll(0x1E5F_E200, 512, 0xEE),
 ];
@@ -180,7 +180,7 @@ const READ_BY_PIO: &[Row] = &[
     ),
     Writes(PX_CI, 1),
     Does(0),
-    Reads(PX_IS, 2),
+    Reads(PX_IS, 0x22),
     Has(0x1E5F_F004, &[0, 4, 0, 0]),
     HasAll(0x1E5F_E000, 512, 0x11),
     HasAll(0x1E5F_E200, 512, 0x22),

@@ -235,7 +235,7 @@ const SPARE: &[Row] = &[
     Writes(PX_CI, 2),
     Does(1),
     Reads(PX_SACT, 0),
-    Reads(PX_IS, 8),
+    Reads(PX_IS, 0x28),
     HasAll(DATA, 2, 0),
     HasAll(DATA + 2, 0x1FE, 0xEE),
     HasAll(DATA + 0x200, 6, 0),

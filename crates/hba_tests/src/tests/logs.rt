@@ -29,14 +29,14 @@ const DIRECTORY: &[Row] = &[
     Has(LIST + 4, &[0, 2, 0, 0]),
 ];
 
-/// The words of IDENTIFY DEVICE that speak of logs: 84 and 87 (bits 0, 1 and 5), 86 (bit 15), 119 and 120 (bit 3).
+/// The words of IDENTIFY DEVICE that speak of logs: 84 and 87 (bits 0, 1 and 5), 86 (bit 15), 119 and 120 (bits 2 and 3).
 const WORDS: &[Row] = &[
     Lays(0, ONE, TABLE, IDENTIFY, SECTOR),
     Writes(PX_CI, 1),
     Does(0),
     Has(DATA + 2 * 84, &[0x63, 0x41]),
     Has(DATA + 2 * 86, &[0x00, 0xB4, 0x63, 0x41]),
-    Has(DATA + 2 * 119, &[0x08, 0x40, 0x08, 0x40]),
+    Has(DATA + 2 * 119, &[0x0C, 0x40, 0x0C, 0x40]),
 ];
 
 /// Page 00h: a header with revision 1, seven pages, and their numbers.
@@ -87,7 +87,7 @@ const COPY: &[Row] = &[
     Has(DATA + 2 * 88, &[0x3F, 0x20]),
     Has(DATA + 2 * 100, &[8, 0, 0, 0, 0, 0, 0, 0]),
     Has(DATA + 2 * 108, NAME),
-    Has(DATA + 2 * 119, &[0x08, 0x40, 0x08, 0x40]),
+    Has(DATA + 2 * 119, &[0x0C, 0x40, 0x0C, 0x40]),
 ];
 
 /// Page 02h: 8 sectors, of 512 bytes each.
@@ -176,7 +176,7 @@ const THE_OTHERS: &[Row] = &[
     Row::Answered(0x40, 0, 0, 0),
     Has(LIST + 4, &[0, 8, 0, 0]),
     Has(DATA, &[1, 0, 3, 0, 0, 0, 0, 0x80]),
-    Has(DATA + 8, &[0x84, 0x19, 0xD1, 0x1A, 0x18, 0, 0, 0x80]),
+    Has(DATA + 8, &[0x86, 0x19, 0xD1, 0x1A, 0x18, 0, 0, 0x80]),
     HasAll(DATA + 16, 15, 0),
     Has(DATA + 31, &[0x80]),
     HasAll(DATA + 32, 24, 0),

@@ -15,7 +15,9 @@ returns-in_err-accept-in-Accept-clause-err g c =
 
 pub returns-in_err-serve-in-Serve-clause-err : goal.returns-in_err-serve-in-Serve-clause-err
 returns-in_err-serve-in-Serve-clause-err g c =
-    absurd (true≢false (sym (next_is_possible step.Serve c.args.self.now c.args.slot (sym c.next.ensures ∙ c.in-Some.is ∙ ap Some c.in-Serve.is)) ∙ c.in_err-serve-in-Serve.ensures.err.1))
+    let next = sym c.next.ensures ∙ c.in-Some.is ∙ ap Some c.in-Serve.is in
+    hands_on c.from_residual-in_err-serve-in-Serve.result c.in_err-serve-in-Serve.field-0.0 _ _ step.Serve _ c.from_residual-in_err-serve-in-Serve.ensures.1
+    (next_is_possible step.Serve c.args.self.now c.args.slot next) next c.in_err-serve-in-Serve.ensures.err.0 c.in_err-serve-in-Serve.ensures.err.1
 
 pub returns-in_err-send-in-Send-clause-err : goal.returns-in_err-send-in-Send-clause-err
 returns-in_err-send-in-Send-clause-err g c =

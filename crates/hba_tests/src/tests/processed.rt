@@ -1,0 +1,272 @@
+//! Stories of entries of a PRDT whose I is 1 (AHCI 1.3.1, sections 3.3.5, DPS, 4.2.3.3 and 5.4.2): DPS is set once all of an entry's bytes have moved.
+
+use crate::tests::fatal::GOES_ON;
+use crate::tests::playing::Pieces::These;
+use crate::tests::playing::Row::{
+    Does, Fails, Fetches, Fills, HasAll, Interrupt, Lays, Reads, Refuses, Steps, Takes, Writes,
+};
+use crate::tests::playing::{Row, Story, plays};
+use crate::tests::registers::{IS, PX_CI, PX_IE, PX_IS, PX_SACT};
+use crate::tests::setting::{
+    COMRESET, DATA, MEMORY, ONE, OTHER, READ, READ_DMA, START, TABLE, WRITE,
+};
+use std::test::Fail;
+
+/// Dword 0 of a header with two entries.
+const TWO: u32 = 0x0002_0005;
+
+/// DPS alone can interrupt, does so once, and is cleared by writing 1.
+const INTERRUPTED: &[Row] = &[
+    Writes(PX_IE, 0x20),
+    Lays(
+        0,
+        TWO,
+        TABLE,
+        READ_DMA,
+        These(&[(DATA, 0x8000_0100), (DATA + 0x200, 256)]),
+    ),
+    Writes(PX_CI, 1),
+    Does(0),
+    Reads(PX_IS, 0x21),
+    Interrupt(true),
+    Writes(PX_IS, 0x20),
+    Writes(IS, 1),
+    Reads(PX_IS, 1),
+    Interrupt(false),
+    Writes(PX_IS, 1),
+    Writes(PX_IE, 0x7800_002F),
+];
+
+/// The data end before the last byte of the entry with I: in it, or before it.
+const NOT_WHOLE: &[Row] = &[
+    Lays(
+        0,
+        TWO,
+        TABLE,
+        READ_DMA,
+        These(&[(DATA, 256), (DATA + 0x200, 0x8000_0102)]),
+    ),
+    Writes(PX_CI, 1),
+    Does(0),
+    Reads(PX_IS, 1),
+    Writes(PX_IS, 1),
+    Lays(
+        0,
+        TWO,
+        TABLE,
+        READ_DMA,
+        These(&[(DATA, 512), (DATA + 0x200, 0x8000_0002)]),
+    ),
+    Writes(PX_CI, 1),
+    Does(0),
+    Reads(PX_IS, 1),
+    Writes(PX_IS, 1),
+];
+
+/// Queued, in both directions.
+const QUEUED: &[Row] = &[
+    Lays(1, ONE, OTHER, READ, These(&[(DATA, 0x8000_0200)])),
+    Writes(PX_SACT, 2),
+    Writes(PX_CI, 2),
+    Does(1),
+    Reads(PX_IS, 0x28),
+    Writes(PX_IS, 0x28),
+    Lays(
+        1,
+        TWO,
+        OTHER,
+        WRITE,
+        These(&[(DATA, 0x8000_01FE), (DATA + 0x200, 2)]),
+    ),
+    Writes(PX_SACT, 2),
+    Writes(PX_CI, 2),
+    Does(1),
+    Reads(PX_IS, 0x28),
+    Writes(PX_IS, 0x28),
+    Lays(1, ONE, OTHER, WRITE, These(&[(DATA, 0x8000_0202)])),
+    Writes(PX_SACT, 2),
+    Writes(PX_CI, 2),
+    Does(1),
+    Reads(PX_IS, 8),
+    Writes(PX_IS, 8),
+];
+
+/// WRITE DMA, WRITE BUFFER DMA and READ BUFFER.
+const NOT_QUEUED: &[Row] = &[
+    Lays(
+        0,
+        ONE,
+        TABLE,
+        [0x2780_CA00, 0x0300_0040, 0, 0x0100_0000],
+        These(&[(DATA, 0x8000_0200)]),
+    ),
+    Writes(PX_CI, 1),
+    Does(0),
+    Reads(PX_IS, 0x21),
+    Writes(PX_IS, 0x21),
+    Lays(
+        0,
+        ONE,
+        TABLE,
+        [0x2780_EB00, 0, 0, 0],
+        These(&[(DATA, 0x8000_0200)]),
+    ),
+    Writes(PX_CI, 1),
+    Does(0),
+    Reads(PX_IS, 0x21),
+    Writes(PX_IS, 0x21),
+    Lays(
+        0,
+        ONE,
+        TABLE,
+        [0x2780_E400, 0, 0, 0],
+        These(&[(DATA, 0x8000_0200)]),
+    ),
+    Writes(PX_CI, 1),
+    Does(0),
+    Reads(PX_IS, 0x22),
+    Writes(PX_IS, 0x22),
+];
+
+/// Three sectors by PIO, and an entry of 700 bytes: its last byte is in the second block, to the device and to the driver.
+const BY_BLOCKS: &[Row] = &[
+    Lays(
+        0,
+        TWO,
+        TABLE,
+        [0x2780_3000, 0x0200_0040, 0, 0x0300_0000],
+        These(&[(DATA, 0x8000_02BC), (DATA + 0x800, 836)]),
+    ),
+    Writes(PX_CI, 1),
+    Steps(0),
+    Steps(0),
+    Steps(0),
+    Steps(0),
+    Steps(0),
+    Reads(PX_IS, 0),
+    Steps(0),
+    Reads(PX_IS, 0),
+    Steps(0),
+    Reads(PX_IS, 0x22),
+    Writes(PX_IS, 0x22),
+    Steps(0),
+    Reads(PX_IS, 2),
+    Writes(PX_IS, 2),
+    Steps(0),
+    Reads(PX_IS, 1),
+    Writes(PX_IS, 1),
+    Lays(
+        0,
+        TWO,
+        TABLE,
+        [0x2780_2000, 0x0200_0040, 0, 0x0300_0000],
+        These(&[(DATA, 0x8000_02BC), (DATA + 0x800, 836)]),
+    ),
+    Writes(PX_CI, 1),
+    Steps(0),
+    Steps(0),
+    Steps(0),
+    Steps(0),
+    Steps(0),
+    Reads(PX_IS, 0),
+    Steps(0),
+    Reads(PX_IS, 2),
+    Writes(PX_IS, 2),
+    Steps(0),
+    Reads(PX_IS, 0x22),
+    Writes(PX_IS, 0x22),
+    Steps(0),
+    Reads(PX_IS, 2),
+    Writes(PX_IS, 2),
+];
+
+/// A list that is too short is filled, and so its entry has moved whole.
+const FILLED: &[Row] = &[
+    Lays(0, ONE, TABLE, READ_DMA, These(&[(DATA, 0x8000_0100)])),
+    Writes(PX_CI, 1),
+    Does(0),
+    Reads(PX_IS, 0x0100_0021),
+    Writes(PX_IS, 0x0100_0021),
+];
+
+/// A read that fails at its second sector has processed the entry of the first one, and one of two bytes more it has not.
+const FAILED: &[Row] = &[
+    Lays(
+        0,
+        TWO,
+        TABLE,
+        [0x2780_C800, 0x0200_0040, 0, 0x0200_0000],
+        These(&[(DATA, 0x8000_0200), (DATA + 0x800, 512)]),
+    ),
+    Writes(PX_CI, 1),
+    Fetches(0),
+    Refuses(0, 0x40, 3),
+    Reads(PX_IS, 0x4000_0021),
+];
+
+const FAILED_WITHIN: &[Row] = &[
+    Lays(
+        1,
+        TWO,
+        OTHER,
+        [0x2780_6002, 0x0200_0040, 0, 0x0800_0000],
+        These(&[(DATA, 0x8000_0202), (DATA + 0x800, 510)]),
+    ),
+    Writes(PX_SACT, 2),
+    Writes(PX_CI, 2),
+    Takes(1),
+    Writes(PX_IS, 0xFFFF_FFFF),
+    Fails(1, 0x40, 3),
+    Reads(PX_IS, 0x4000_0008),
+];
+
+/// A fatal error behind an entry that is in memory stops the answer, and DPS with it (profile).
+const STOPPED: &[Row] = &[
+    Fills(DATA, 512, 0xEE),
+    Lays(
+        0,
+        TWO,
+        TABLE,
+        READ_DMA,
+        These(&[(DATA, 0x8000_0100), (0x2_0000, 256)]),
+    ),
+    Writes(PX_CI, 1),
+    Does(0),
+    HasAll(DATA, 256, 0),
+    Reads(PX_IS, 0x2000_0000),
+];
+
+static STORIES: [Story; 2] = [
+    Story {
+        name: "entries with I",
+        sectors: 8,
+        depth: 32,
+        memory: MEMORY,
+        parts: &[
+            START,
+            INTERRUPTED,
+            NOT_WHOLE,
+            QUEUED,
+            NOT_QUEUED,
+            BY_BLOCKS,
+            FILLED,
+            GOES_ON,
+            FAILED,
+        ],
+    },
+    Story {
+        name: "answers that fail within an entry with I",
+        sectors: 8,
+        depth: 32,
+        memory: MEMORY,
+        parts: &[START, STOPPED, COMRESET, FAILED_WITHIN],
+    },
+];
+
+#[test]
+fn an_entry_with_i_sets_dps_once_it_has_moved_whole(rt: HostRuntime) -> Result<(), Fail> {
+    for story in &STORIES {
+        plays(&rt, rt.alloc(), story)?;
+    }
+    Ok(())
+}
