@@ -69,6 +69,7 @@ extern "C" {
 #define AHCI_PXIS_PSS (1u << 1)
 #define AHCI_PXIS_DSS (1u << 2)
 #define AHCI_PXIS_SDBS (1u << 3)
+#define AHCI_PXIS_DPS (1u << 5)
 #define AHCI_PXIS_PCS (1u << 6)
 #define AHCI_PXIS_PRCS (1u << 22)
 #define AHCI_PXIS_OFS (1u << 24)
@@ -408,7 +409,7 @@ typedef enum ahci_hba_step_kind {
     AHCI_STEP_FETCH = 1,   /* the command is read: header, CFIS, PRDT and a write's data (section 5.3) */
     AHCI_STEP_SEND = 2,    /* it goes to the disk's queue: its request is in the journal then */
     AHCI_STEP_ACCEPT = 3,  /* the disk takes it, or refuses it if it passes the last sector */
-    AHCI_STEP_SERVE = 4,   /* the disk moves its data and completes it; or ahci_hba_fail fails it */
+    AHCI_STEP_SERVE = 4,   /* the disk moves its data and completes it, or fails a read of a sector that WRITE UNCORRECTABLE EXT has marked; or ahci_hba_fail fails it */
     AHCI_STEP_DELIVER = 5, /* its answer is assembled, and written next; by PIO, one block in each of these steps */
     AHCI_STEP_EXECUTE = 6, /* a command for which the disk's queue moves no sectors is carried out, or aborted */
     AHCI_STEP_CONTROL = 7, /* the disk takes a control FIS: one with SRST drops all commands (section 10.4.1) */
@@ -542,7 +543,8 @@ uint32_t ahci_port_received(ahci_port *port, uint8_t *out, size_t out_bytes);
 /* Issues the command of a window as it is in memory ("Building a Command"): the 32 bytes of its command header, and the
    memory from the tag's base on, 10000000h + tag * 4000000h, with the header's table and the PRDT's data. Its number is *number, that of its Issue
    entry. AHCI_BAD_TAG if the tag is not below 32, AHCI_WRONG_LENGTH if the header has not 32 bytes, then AHCI_HALTED,
-   AHCI_NO_SUCH_TAG, AHCI_SLOT_OWNED, AHCI_BAD_HEADER, AHCI_BAD_COMMAND, AHCI_WRONG_TAG, AHCI_BAD_LIST, AHCI_OUT_OF_MEMORY. */
+   AHCI_NO_SUCH_TAG, AHCI_SLOT_OWNED; AHCI_OUT_OF_MEMORY if the window can't be copied; AHCI_BAD_HEADER, AHCI_BAD_COMMAND, AHCI_WRONG_TAG,
+   AHCI_BAD_LIST; AHCI_OUT_OF_MEMORY if there is no room for the request. */
 uint32_t ahci_port_issue(ahci_port *port, uint32_t tag, const uint8_t *header, size_t header_bytes, const uint8_t *memory, size_t memory_bytes, uint64_t *number);
 
 /* Issues a read or a write of `sectors` sectors from `lba` on, in a window that the library lays out: pieces of 4,096 bytes
@@ -674,6 +676,14 @@ uint32_t ahci_hba_unplug(ahci_hba *hba, uint64_t *entries);
 
 /* It is plugged in again, and makes itself known. A disk that is in does no more than that. */
 uint32_t ahci_hba_plug(ahci_hba *hba);
+
+/* Another disk is plugged in where one was pulled out, and makes itself known: of `sectors` sectors over a base, as ahci_hba_over has it, with this queue depth and this
+   name. It is as new: settings, logs, buffer and counters are those of a disk that has never been used, and it has a write cache if the one that was pulled out had
+   one. No command of that one reaches it, and the pages that ahci_hba_touched names are its own. The journal goes on by number; that of the disk that was pulled out is
+   discarded, with its sectors: *entries is how many entries it had. On AHCI_OK the base of that disk, if it had one, is the caller's again; on any other answer the
+   library keeps it, and not the one that is given. AHCI_NOT_READY if a disk is plugged in, AHCI_BAD_SIZE if `sectors` is 0, AHCI_BAD_DEPTH, AHCI_BAD_FIRST if the
+   number of the next entry is over 2^63, AHCI_BAD_KIND as ahci_hba_identity, AHCI_OUT_OF_MEMORY. */
+uint32_t ahci_hba_plug_other(ahci_hba *hba, const uint8_t *base, size_t base_bytes, uint32_t sectors, uint32_t depth, const ahci_identity *identity, uint64_t *entries);
 
 /* A FIS meets this ahci_interface_error (sections 6.1.2 and 6.2.2): DIAG's bit with one of ERR, and IFS if it is fatal, which stops the port, else INFS, after
    which all goes on. Without a link nothing changes. AHCI_BAD_KIND for a number that is no error. */

@@ -51,7 +51,7 @@ static uint32_t slot_at(uint32_t step)
 /* The next step of a slot. */
 static void steps(uint32_t slot)
 {
-    uint64_t entries = 0;
+    uint64_t entries = 0, lba;
     const uint32_t next = slot < 32 ? look.next[slot] : AHCI_STEP_NONE;
     struct command *it = &slots[slot % 32];
     CHECK(ahci_hba_step(&hba, slot, &entries) == (slot > 31 ? AHCI_BAD_TAG : next == AHCI_STEP_NONE ? AHCI_NOT_READY : AHCI_OK));
@@ -73,6 +73,13 @@ static void steps(uint32_t slot)
             answers_alone(slot, d2h(0, 0x40, 0, 0));
         break;
     case AHCI_STEP_SERVE:
+        if (meets_unreadable(it, &lba)) {
+            counted.unread++;
+            fails(slot, 0x40, lba, false);
+            break;
+        }
+        if (it->writes)
+            turns_sectors(it, false);
         follow(0);
         it->there = it->sent = false;
         transfer.on = true;
@@ -202,7 +209,7 @@ static bool is_busy(void)
 static void compare_image(void)
 {
     uint8_t sector[AHCI_SECTOR_BYTES];
-    for (uint64_t lba = 0; lba < SECTORS; lba++)
+    for (uint64_t lba = 0; lba < has; lba++)
         CHECK(ahci_hba_copy(&hba, lba, sector, sizeof sector) == AHCI_OK && memcmp(sector, image + lba * sizeof sector, sizeof sector) == 0);
 }
 
@@ -272,15 +279,17 @@ static uint32_t lay_list(uint8_t *to, uint32_t moved)
     return shape == NONE ? 0 : shape == ANY_LENGTH && byte() % 4 == 0 ? word() & 0xFFFF : shape == MORE ? count + byte() % 64 : count;
 }
 
-/* The fields of SET FEATURES, SET MULTIPLE MODE, SMART and DATA SET MANAGEMENT: mostly those of a subcommand that there is. */
+/* The fields of SET FEATURES, SET MULTIPLE MODE, SMART, WRITE UNCORRECTABLE EXT and DATA SET MANAGEMENT: mostly those of a subcommand that there is. */
 static void asks_more(uint8_t *fis, uint8_t far, uint8_t many)
 {
     static const uint8_t features[] = { 0x03, 0x02, 0x82, 0x05, 0x85, 0x55, 0xAA, 0x66, 0xCC, 0x03 }, smart[] = { 0xD0, 0xD1, 0xD2, 0xD4, 0xD5, 0xD8, 0xD8, 0xD9, 0xDA, 0xD4, 0xD5, 0xD3 },
-                         tests[] = { 0, 1, 2, 0x81, 0x82, 0x7F, 6, 3 };
+                         tests[] = { 0, 1, 2, 0x81, 0x82, 0x7F, 6, 3 }, spoiling[] = { 0x55, 0x5A, 0xA5, 0xAA, 0x55, 0x54, 0x45 };
     if (fis[2] == 0xEF)
         fis[3] = features[many % sizeof features], fis[12] = far;
     if (fis[2] == 0xC6)
         fis[12] = far % 8 == 7 ? many : (uint8_t)(1u << far % 6 >> 1);
+    if (fis[2] == 0x45)
+        fis[3] = spoiling[many % sizeof spoiling];
     if (fis[2] == 0x06)
         fis[3] = many % 8 != 7, fis[12] = 1 + far % 2;
     if (fis[2] == 0xB0) {
@@ -296,7 +305,7 @@ static void command(void)
 {
     static const uint8_t codes[] = { 0x60, 0x61, 0x60, 0x61, 0x60, 0x61, 0x60, 0x61, 0xC8, 0xCA, 0x25, 0x35, 0x20, 0x20, 0x30, 0x24, 0x34, 0x34, 0xEC, 0x2F, 0x2F, 0x47, 0xEA, 0xE7, 0xEF, 0xA1,
         0x40, 0x42, 0x27, 0x90, 0xE5, 0xE5, 0xE5, 0xE0, 0xE2, 0xE1, 0xE3, 0xE6, 0x00, 0xB0, 0xB0, 0xB0, 0xB0, 0xB0, 0xEF, 0xEF, 0xEF, 0xE4, 0xE8, 0xE8, 0xE9, 0xEB, 0x06, 0x06, 0x3D,
-        0xC4, 0xC5, 0x29, 0x39, 0xCE, 0xC6, 0xC6, 0xC6, 0xC4 };
+        0xC4, 0xC5, 0x29, 0x39, 0xCE, 0xC6, 0xC6, 0xC6, 0xC4, 0x45 };
     const uint32_t slot = byte() % 8 == 7 ? 31 : byte() % 6, code = codes[byte() % sizeof codes], bit = 1u << slot;
     const uint8_t far = byte(), lba = far % 32 ? far % 12 : far / 32 + 10, many = byte(), count = many % 128 ? 1 + many % 5 : 0, odd = byte();
     const bool queued = code == 0x60 || code == 0x61, log = code == 0x2F || code == 0x47, is_control = odd % 32 == 30 || (soft == HELD && odd % 4 == 2);
@@ -419,7 +428,7 @@ static void power_cycle(void)
 /* What a sector may hold then: what it has, what it had, what some write has for it, or something else. */
 static void lose_power(void)
 {
-    const uint32_t sector = byte() % SECTORS, pick = byte(), tag = byte() % 32;
+    const uint32_t sector = byte() % has, pick = byte(), tag = byte() % 32;
     const uint64_t at = (uint64_t)sector * AHCI_SECTOR_BYTES;
     const bool goes = going[tag].on && sector >= going[tag].lba && sector < going[tag].lba + going[tag].sectors;
     uint8_t bytes[AHCI_SECTOR_BYTES];
@@ -427,7 +436,7 @@ static void lose_power(void)
     memcpy(bytes, pick % 4 == 0 ? image + at : pick % 4 == 1 ? beginning + at : pick % 4 == 2 && chance_count ? chances[pick / 4 % chance_count].bytes : goes ? going[tag].bytes + at - going[tag].lba * AHCI_SECTOR_BYTES : durable + at,
            sizeof bytes);
     bytes[pick] ^= pick % 16 == 15;
-    CHECK(ahci_hba_may_be_left(&hba, beginning + at, AHCI_SECTOR_BYTES, SECTORS, bytes, sizeof bytes, &may) == AHCI_NO_SUCH_SECTOR && may == 77);
+    CHECK(ahci_hba_may_be_left(&hba, beginning + at, AHCI_SECTOR_BYTES, has, bytes, sizeof bytes, &may) == AHCI_NO_SUCH_SECTOR && may == 77);
     CHECK(ahci_hba_may_be_left(&hba, beginning + at, 511, sector, bytes, sizeof bytes, &may) == AHCI_WRONG_LENGTH && may == 77);
     CHECK(ahci_hba_may_be_left(&hba, beginning + at, AHCI_SECTOR_BYTES, sector, bytes, 513, &may) == AHCI_WRONG_LENGTH && may == 77);
     CHECK(ahci_hba_may_be_left(&hba, beginning + at, AHCI_SECTOR_BYTES, sector, bytes, sizeof bytes, &may) == AHCI_OK && may <= 1);
@@ -473,6 +482,52 @@ static void plug(void)
     follow(0);
 }
 
+/* Another disk, whose sectors are those of a base and then zeros: it comes only where one was pulled out, and for one that can't be made nothing changes. */
+static void exchange(void)
+{
+    static uint8_t bases[2][SECTORS * AHCI_SECTOR_BYTES]; /* the base of the disk that is there is not touched */
+    static uint32_t turn;
+    const uint8_t pick = byte();
+    const uint32_t sectors = 1 + byte() % SECTORS, given = byte() % (sectors + 1), takes = 1 + byte() % 32;
+    const bool caches = byte() % 2;
+    uint8_t *base = bases[turn];
+    uint64_t entries = 77;
+    ahci_state before;
+    ahci_identity name = { .rotation = pick % 2 };
+    snprintf((char *)name.serial, sizeof name.serial, "%-19u", 2u + pick);
+    name.serial[19] = ' ';
+    memcpy(name.firmware, "1.0     ", sizeof name.firmware);
+    memcpy(name.model, "SOFTWARE NCQ DISK                       ", sizeof name.model);
+    for (uint32_t at = 0; at < SECTORS * AHCI_SECTOR_BYTES; at++)
+        base[at] = (uint8_t)(pick + at + 3 * (at / AHCI_SECTOR_BYTES));
+    CHECK(ahci_hba_port(&hba, &before) == AHCI_OK);
+    CHECK(ahci_hba_plug_other(&hba, base, given * AHCI_SECTOR_BYTES, 0, takes, &name, &entries) == (pulled ? AHCI_BAD_SIZE : AHCI_NOT_READY));
+    CHECK(ahci_hba_plug_other(&hba, base, given * AHCI_SECTOR_BYTES, sectors, pick % 2 ? 0 : 33, &name, &entries) == (pulled ? AHCI_BAD_DEPTH : AHCI_NOT_READY));
+    name.serial[0] = '\n';
+    CHECK(ahci_hba_plug_other(&hba, base, given * AHCI_SECTOR_BYTES, sectors, takes, &name, &entries) == (pulled ? AHCI_BAD_KIND : AHCI_NOT_READY) && entries == 77);
+    snprintf((char *)name.serial, sizeof name.serial, "%-19u", 2u + pick);
+    name.rotation = 0;
+    name.serial[19] = ' ';
+    compare_image();
+    if (!pulled) {
+        CHECK(ahci_hba_plug_other(&hba, base, given * AHCI_SECTOR_BYTES, sectors, takes, &name, &entries) == AHCI_NOT_READY && entries == 77);
+        return;
+    }
+    CHECK(ahci_hba_write_cache(&hba, caches) == AHCI_OK);
+    disk.has_cache = caches;
+    CHECK(ahci_hba_plug_other(&hba, base, given * AHCI_SECTOR_BYTES, sectors, takes, &name, &entries) == AHCI_OK && entries == before.next - before.first);
+    turn = 1 - turn;
+    memset(bases[turn], 0xEE, sizeof bases[turn]); /* the base of the disk that was pulled out is the caller's again */
+    memset(image, 0, sizeof image);
+    memcpy(image, base, (size_t)given * AHCI_SECTOR_BYTES);
+    depth = takes;
+    char text[21];
+    snprintf(text, sizeof text, "%-20u", 2u + pick);
+    is_exchanged(text, sectors);
+    follow(entries);
+    compare_image();
+}
+
 /* An error of the interface, or one that it doesn't have: DIAG.D is not AHCI's, and the other bits are no such errors. */
 static void fail_interface(void)
 {
@@ -488,7 +543,7 @@ static void fail_interface(void)
 /* One of them, one time of four, so that runs get on. */
 static void event(void)
 {
-    static void (*const events[])(void) = { lose_link, find_link, unplug, plug, fail_interface, fail_interface };
+    static void (*const events[])(void) = { lose_link, find_link, unplug, plug, exchange, fail_interface };
     if (byte() % 4 == 0)
         events[byte() % (sizeof events / sizeof *events)]();
 }
@@ -518,7 +573,9 @@ static void get_back(void)
     const uint8_t pick = byte();
     if (pick % 8 > 1)
         return;
-    if (pulled) {
+    if (pulled && byte() % 2) {
+        exchange();
+    } else if (pulled) {
         plug();
     } else if (pick % 8) {
         find_link();
@@ -614,11 +671,13 @@ int LLVMFuzzerTestOneInput(const uint8_t *bytes, size_t count)
     }
     compare();
     compare_image();
-    CHECK(ahci_hba_copy(&hba, SECTORS, sector, sizeof sector) == AHCI_NO_SUCH_SECTOR && ahci_hba_copy(&hba, 0, sector, 511) == AHCI_WRONG_LENGTH);
+    CHECK(ahci_hba_copy(&hba, has, sector, sizeof sector) == AHCI_NO_SUCH_SECTOR && ahci_hba_copy(&hba, 0, sector, 511) == AHCI_WRONG_LENGTH);
     CHECK(ahci_hba_free(&hba) == AHCI_OK && ahci_hba_free(&hba) == AHCI_NO_PORT);
     CHECK(ahci_hba_lose_link(&hba, &entries) == AHCI_NO_PORT && ahci_hba_find_link(&hba) == AHCI_NO_PORT && ahci_hba_unplug(&hba, &entries) == AHCI_NO_PORT);
     CHECK(ahci_hba_end(&hba, 0, 0x61, 0, 0) == AHCI_NO_PORT && ahci_hba_sign_as(&hba, 1) == AHCI_NO_PORT && ahci_hba_spoiled(&hba) == AHCI_NO_PORT);
     CHECK(ahci_hba_receive_bits(&hba, 1) == AHCI_NO_PORT && ahci_hba_receive_register(&hba) == AHCI_NO_PORT && ahci_hba_receive_unknown(&hba, sector, 4) == AHCI_NO_PORT);
+    static const ahci_identity unnamed;
+    CHECK(ahci_hba_plug_other(&hba, sector, sizeof sector, 1, 32, &unnamed, &entries) == AHCI_NO_PORT && entries == 77);
     CHECK(ahci_hba_plug(&hba) == AHCI_NO_PORT && ahci_hba_fail_interface(&hba, AHCI_INTERFACE_CRC, 1) == AHCI_NO_PORT && entries == 77);
     return 0;
 }
@@ -647,7 +706,9 @@ int main(int count, char **arguments)
         counted.blocks, counted.long_blocks, counted.spilled, counted.stuck, counted.partial, counted.deep, counted.slept);
     printf("the link was lost %lu times, and COMINIT came %lu times; the disk was pulled out %lu times, and the driver then tried the link %lu times; and %lu errors of the interface\n", counted.lost,
         counted.found, counted.pulled, counted.tries, counted.broken);
-    printf("and the disk took data that are no sectors %lu times\n", counted.stored);
+    printf("%lu times another disk was plugged in\n", counted.other);
+    printf("and the disk took data that are no sectors %lu times; %lu answers and blocks ended entries with I\n", counted.stored, counted.told);
+    printf("%lu sectors were marked uncorrectable, %lu reads failed at one, and %lu were written again\n", counted.spoiled, counted.unread, counted.mended);
     printf("after a loss of power a sector might have had some bytes %lu times, and %lu times not\n", counted.left, counted.lost_bytes);
     printf("%lu commands came under queued ones and aborted them, and %lu queued ones failed with ICRC\n", counted.mixed, counted.icrc);
     printf("%lu commands ended with another status, %lu signatures were not a disk's, and %lu FISes came that no command asks for\n", counted.ended, counted.foreign, counted.unasked);

@@ -6,7 +6,7 @@
 #include <stdlib.h>
 #include <string.h>
 
-#define SECTORS 16u
+#define SECTORS 16u         /* of a disk at most */
 #define LOW 0x1000u         /* the driver's memory: at LOW and at HIGH */
 #define HIGH 0x100000000u
 #define PIECES 2048u        /* no more entries are in it */
@@ -14,7 +14,7 @@
 #define CHECK(it) do { if (!(it)) { fprintf(stderr, "%s, line %d: %s\n", __FILE__, __LINE__, #it); abort(); } } while (0)
 
 /* Bits of PxIS, PxTFD and PxSERR (AHCI 1.3.1, sections 3.3.5, 3.3.8 and 3.3.12). */
-enum { DHRS = 1, PSS = 2, SDBS = 8, OFS = 1 << 24, INFS = 1 << 26, IFS = 1 << 27, HBDS = 1 << 28, HBFS = 1 << 29, TFES = 1 << 30 };
+enum { DHRS = 1, PSS = 2, SDBS = 8, DPS = 1 << 5, OFS = 1 << 24, INFS = 1 << 26, IFS = 1 << 27, HBDS = 1 << 28, HBFS = 1 << 29, TFES = 1 << 30 };
 enum { UFS = 1 << 4, DIAG_F = 1 << 25 };
 enum { BSY = 0x80, DRQ = 8, ERR = 1 };
 enum { DIAG_X = 1 << 26, DIAG_W = 1 << 18, DIAG_N = 1 << 16, ERR_P = 1 << 10, ERR_T = 1 << 8, ERR_I = 1 << 0 };
@@ -27,6 +27,9 @@ static uint64_t first, seen; /* numbers of the journal */
 /* What the controller can do, and how many queued commands the disk takes. */
 static ahci_hba_capabilities can = AHCI_HBA_USUAL;
 static uint32_t depth = 32;
+/* The disk's sectors, and its serial number (ACS-3, IDENTIFY DEVICE, words 10 to 19). */
+static uint32_t has;
+static char serial[21];
 /* The registers: CCS, the slot with the highest priority, ATAPI and DLAE with ALPE and ASP, the link's speed, and IPS as `pending` among them. A link
    that listens waits for SUD. PxIS is without PCS and PRCS, which are PxSERR's. */
 static struct {
@@ -52,12 +55,15 @@ static bool pulled; /* the disk is pulled out */
    WRITE MULTIPLE; the logs of self-tests are without their checksums. */
 static struct { bool has_cache, cache, ahead, reverts, smart; uint8_t level, mode, per_block, tests[AHCI_PAGE_BYTES], more_tests[AHCI_PAGE_BYTES], buffer[AHCI_PAGE_BYTES]; } disk;
 static uint8_t page[AHCI_PAGE_BYTES]; /* the log of that */
+/* Sectors that can't be read (ACS-3, "WRITE UNCORRECTABLE EXT"): neither a reset nor a power cycle makes them good, and only a write does. */
+static bool unreadable[SECTORS];
 
 /* A FIS of the device, or none, and whether it is still to be written to the received FIS area. */
 struct fis { uint8_t bytes[28]; uint32_t size; bool due; };
 static const struct fis no_fis;
 
-/* The commands that were read, by slot. Of the list: how many bytes it has, and which run and which of its bytes the data have come to. */
+/* The commands that were read, by slot. Of the list: how many bytes it has, and which run and which of its bytes the data have come to; of an entry I, which asks to be
+   told once its data have moved. */
 enum kind { OTHER, QUEUE, READ, WRITE, PAGE, STORE, CONTROL };
 static struct command {
     bool there, sent, accepted, queued, writes, pio, multiple, error_log, long_log, is_smart, resets, has_48_bits;
@@ -65,17 +71,18 @@ static struct command {
     uint8_t fis[20];
     uint64_t lba, moved, room, used, into;
     uint32_t sectors, pages, pieces, piece;
-    struct { uint64_t at, bytes; } list[PIECES];
+    struct { uint64_t at, bytes; bool asks; } list[PIECES];
     uint8_t bytes[KEPT]; /* of a write as they were read, of a read as the image had them */
 } slots[32];
 
-/* What is read: the command of a slot, up to a place. What is written: an answer, as long as any of it is left; `spills` if its data have no room. And
+/* What is read: the command of a slot, up to a place. What is written: an answer, as long as any of it is left; `spills` if its data have no room, and `tells` if
+   an entry that asks for it has moved whole with them. And
    a command whose sectors the queue has moved, or whose answer goes block by block: how many sectors there are, have moved and are in a block, and the FIS behind them. */
 static struct { bool on, clears; uint32_t slot, phase, entries, piece; uint64_t table, left; } fetch;
-static struct { bool on, counts, spills, signs, unasked; struct fis before, after; uint32_t slot, signature; uint64_t left; } answer;
+static struct { bool on, counts, spills, tells, signs, unasked; struct fis before, after; uint32_t slot, signature; uint64_t left; } answer;
 static struct { bool on, begun; uint32_t slot, sectors, past, per_block; struct fis end; } transfer;
 
-static struct { unsigned long done, halts, dropped, trims, blocks, long_blocks, spilled, stuck, partial, deep, slept, lost, found, pulled, tries, broken, ended, foreign, unasked, stored, left, lost_bytes, mixed, icrc; } counted;
+static struct { unsigned long done, halts, dropped, trims, blocks, long_blocks, spilled, stuck, partial, deep, slept, lost, found, pulled, other, tries, broken, ended, foreign, unasked, stored, left, lost_bytes, mixed, icrc, spoiled, unread, mended, told; } counted;
 
 static uint8_t *memory(uint64_t at, uint64_t count)
 {
@@ -221,14 +228,27 @@ static void power_on(void)
     icrc_ends = signatures = 0;
 }
 
+/* A disk that has never been used: SMART is enabled, and its logs have their revision and no test. */
+static void is_new(const char *name, uint32_t sectors)
+{
+    const bool has_cache = disk.has_cache;
+    memset(&disk, 0, sizeof disk);
+    disk.has_cache = has_cache;
+    disk.tests[0] = disk.more_tests[0] = 1;
+    disk.smart = true;
+    memset(unreadable, 0, sizeof unreadable);
+    reverts();
+    has = sectors;
+    memcpy(serial, name, sizeof serial);
+}
+
 /* A new controller, over sectors of which no two are alike. */
 static void begin(void)
 {
     memset(&reg, 0, sizeof reg);
     pulled = false;
-    memset(&disk, 0, sizeof disk);
-    disk.tests[0] = disk.more_tests[0] = 1;
-    disk.smart = true;
+    disk.has_cache = false;
+    is_new("00000001            ", SECTORS);
     power_on();
     memset(low, 0, sizeof low);
     memset(high, 0, sizeof high);
@@ -338,7 +358,7 @@ static void is_signed(void)
 }
 
 /* What the last byte of an answer does: its FISes take effect, and data that had no room set OFS, which is no fatal error (DR:Receive; sections 3.3.5, 6.1.5
-   and 6.2.1). */
+   and 6.2.1). Before the FIS behind the data comes, those of an entry with I set DPS once all of them have moved (sections 3.3.5, 4.2.3.3 and 5.4.2). */
 static void ends(void)
 {
     const bool is_block = answer.before.size && answer.before.bytes[0] == 0x5F;
@@ -346,6 +366,8 @@ static void ends(void)
     receives(&answer.before, answer.slot);
     reg.is |= answer.spills ? OFS : 0;
     counted.spilled += answer.spills;
+    reg.is |= answer.tells ? DPS : 0;
+    counted.told += answer.tells;
     if (answer.signs) {
         is_signed();
     } else if (is_block) {
@@ -469,6 +491,16 @@ static void is_plugged(void)
     power = pulled ? ACTIVE : power;
     pulled = false;
     finds_link();
+}
+
+/* Another disk is plugged in, where one was pulled out: nothing of that one is left but its slot. Its power comes on, and it sends COMINIT. */
+static void is_exchanged(const char *name, uint32_t sectors)
+{
+    counted.other++;
+    is_new(name, sectors);
+    mixed = false;
+    icrc_ends = signatures = 0;
+    is_plugged();
 }
 
 /* A FIS meets an error of the interface (sections 3.3.12 and 6.1.2): S and T are violations of the protocol; B, C and H are of the data's integrity, which the

@@ -60,14 +60,33 @@ static struct fis pio_setup(bool out, bool is_first, bool is_last, uint32_t sect
 
 /* ---- answers ---- */
 
-/* An answer is put together: a FIS or none, data, PRDBC, another FIS or none. Data that have no room fill the list, and the rest of them is dropped. */
-static void answers(uint32_t slot, struct fis before, uint64_t data, bool counts, struct fis after)
+/* The data of a command go on by so many bytes, to the driver or from it: whether those of an entry with I are complete with one of them. */
+static bool passes(struct command *it, uint64_t count)
 {
-    const struct command *it = &slots[slot];
+    bool tells = false;
+    while (count && it->piece < it->pieces) {
+        const uint64_t rest = it->list[it->piece].bytes - it->into, part = rest < count ? rest : count;
+        it->into += part;
+        count -= part;
+        if (part == rest) {
+            tells = tells || it->list[it->piece].asks;
+            it->into = 0;
+            it->piece++;
+        }
+    }
+    return tells;
+}
+
+/* An answer is put together: a FIS or none, data, PRDBC, another FIS or none. Data that have no room fill the list, and the rest of them is dropped. The data of a
+   write that go `out` were read before. */
+static void answers(uint32_t slot, struct fis before, uint64_t data, uint64_t out, bool counts, struct fis after)
+{
+    struct command *it = &slots[slot];
     answer.on = true;
     answer.slot = slot;
     answer.spills = data && data > it->room - it->used;
     answer.left = answer.spills ? it->room - it->used : data;
+    answer.tells = passes(it, out);
     answer.counts = counts;
     answer.before = before;
     answer.after = after;
@@ -78,7 +97,7 @@ static void answers(uint32_t slot, struct fis before, uint64_t data, bool counts
         ends();
 }
 
-static void answers_alone(uint32_t slot, struct fis fis) { answers(slot, no_fis, 0, false, fis); }
+static void answers_alone(uint32_t slot, struct fis fis) { answers(slot, no_fis, 0, 0, false, fis); }
 
 /* A FIS that no command asks for is sent. */
 static void sends(struct fis fis)
@@ -97,7 +116,7 @@ static void signs(uint32_t signature_sent)
     counted.foreign += it != 0x101;
     answer.signature = it;
     answer.on = answer.signs = true;
-    answer.spills = answer.counts = answer.unasked = false;
+    answer.spills = answer.tells = answer.counts = answer.unasked = false;
     answer.slot = 0;
     answer.left = 0;
     answer.before = no_fis;
@@ -121,39 +140,39 @@ static void begins(uint32_t slot, uint64_t bytes, struct fis end)
 /* The next block, or what comes behind the last one of a write and of a read that fails: PRDBC and the FIS. */
 static void moves_on(uint32_t slot)
 {
-    const uint32_t rest = transfer.sectors - transfer.past, sectors = rest < transfer.per_block ? rest : transfer.per_block;
+    const uint32_t rest = transfer.sectors - transfer.past, sectors = rest < transfer.per_block ? rest : transfer.per_block, bytes = sectors * AHCI_SECTOR_BYTES;
     const bool out = slots[slot].writes, is_first = transfer.past == 0, is_last = sectors == rest && !transfer.end.size;
     if (!rest) {
         transfer.on = false;
-        answers(slot, no_fis, 0, true, transfer.end);
+        answers(slot, no_fis, 0, 0, true, transfer.end);
         return;
     }
     transfer.past += sectors;
     transfer.on = !is_last;
     counted.long_blocks += sectors > 1;
-    answers(slot, pio_setup(out, is_first, is_last, sectors), out ? 0 : sectors * AHCI_SECTOR_BYTES, !out, no_fis);
+    answers(slot, pio_setup(out, is_first, is_last, sectors), out ? 0 : bytes, out ? bytes : 0, !out, no_fis);
 }
 
 /* The answer to a command that has moved its data in the disk. */
 static void delivers(uint32_t slot)
 {
     const struct command *it = &slots[slot];
-    const uint64_t data = it->writes ? 0 : it->moved;
+    const uint64_t data = it->writes ? 0 : it->moved, out = it->moved - data;
     transfer.on = false;
     if (it->kind == QUEUE)
-        answers(slot, dma_setup(it, slot), data, false, set_bits(0x40, 0, 1u << slot));
+        answers(slot, dma_setup(it, slot), data, out, false, set_bits(0x40, 0, 1u << slot));
     else if (it->kind == PAGE && it->pio && !it->long_log)
-        answers(slot, pio_setup(false, true, true, 1), data, true, no_fis);
+        answers(slot, pio_setup(false, true, true, 1), data, out, true, no_fis);
     else if (it->pio)
         begins(slot, it->moved, it->writes ? good() : no_fis);
     else
-        answers(slot, no_fis, data, true, good());
+        answers(slot, no_fis, data, out, true, good());
 }
 
 /* How many bytes of a read come before an LBA, of those that are on the disk; they are taken from the image. */
 static uint64_t comes_before(struct command *it, uint64_t lba)
 {
-    const uint64_t end = it->lba + it->sectors, stop = lba < end ? lba : end, last = stop < SECTORS ? stop : SECTORS;
+    const uint64_t end = it->lba + it->sectors, stop = lba < end ? lba : end, last = stop < has ? stop : has;
     if (it->writes || last <= it->lba || !it->moved)
         return 0;
     memcpy(it->bytes, image + it->lba * AHCI_SECTOR_BYTES, (last - it->lba) * AHCI_SECTOR_BYTES);
@@ -192,7 +211,7 @@ static void ends_alone(uint32_t slot, uint8_t status, uint8_t error, uint64_t lb
     if (data && it->pio)
         begins(slot, data, fis);
     else
-        answers(slot, no_fis, data, data != 0, fis);
+        answers(slot, no_fis, data, 0, data != 0, fis);
 }
 
 static void fails_alone(uint32_t slot, uint8_t error, uint64_t lba) { ends_alone(slot, 0x41, error, lba); }
@@ -209,7 +228,7 @@ static void fails(uint32_t slot, uint8_t error, uint64_t lba, bool is_refused)
     if (is_refused)
         answers_alone(slot, bad(it, error, at));
     else
-        answers(slot, data ? dma_setup(it, slot) : no_fis, data, false, set_bits(0x41, error, 0));
+        answers(slot, data ? dma_setup(it, slot) : no_fis, data, 0, false, set_bits(0x41, error, 0));
 }
 
 /* Whether the disk aborts a command that is not queued: a queued one is outstanding, log 10h is to be read before any other command, or its blocks have no size. */
@@ -222,9 +241,18 @@ static bool is_aborted(uint32_t slot)
 static struct fis answer_to(const struct command *it)
 {
     struct fis fis = good();
+    uint64_t lba;
+    if (meets_unreadable(it, &lba))
+        return bad(it, 0x40, lba);
     switch (it->fis[2]) {
+    case 0x45:
+        if (!it->sectors)
+            return bad(it, 4, 0);
+        if (!is_past(it))
+            turns_sectors(it, true);
+        return is_past(it) ? bad(it, 0x10, first_past(it)) : fis;
     case 0x40: case 0x42: return is_past(it) ? bad(it, 0x10, first_past(it)) : fis;
-    case 0xF8: case 0x27: return at_lba(it, 0x40, 0, SECTORS - 1);
+    case 0xF8: case 0x27: return at_lba(it, 0x40, 0, has - 1);
     case 0xE7: case 0xEA: case 0xE0: case 0xE1: case 0xE2: case 0xE3: case 0xE6: return fis;
     case 0xEF: return sets_feature(it) ? fis : bad(it, 4, 0);
     case 0xC6: return sets_blocks(it) ? fis : bad(it, 4, 0);
@@ -243,7 +271,7 @@ static struct fis answer_to(const struct command *it)
 static void needs_medium(const struct command *it)
 {
     const uint8_t code = it->fis[2];
-    if (it->kind == QUEUE || it->kind == READ || it->kind == WRITE || code == 0x40 || code == 0x42 || code == 0xE7 || code == 0xEA)
+    if (it->kind == QUEUE || it->kind == READ || it->kind == WRITE || code == 0x40 || code == 0x42 || code == 0xE7 || code == 0xEA || spoils(it->fis))
         power = ACTIVE;
 }
 
@@ -270,7 +298,7 @@ static void stores(uint32_t slot)
     if (it->pio)
         begins(slot, it->moved, end);
     else
-        answers(slot, no_fis, 0, true, end);
+        answers(slot, no_fis, 0, it->moved, true, end);
 }
 
 /* A command for which the queue moves no sectors is carried out, or aborted. */
@@ -278,6 +306,7 @@ static void executes(uint32_t slot)
 {
     struct command *it = &slots[slot];
     const bool aborted = is_aborted(slot);
+    uint64_t lba;
     if (aborted)
         mixes(slot, 0x41, 4);
     it->there = false;
@@ -288,6 +317,9 @@ static void executes(uint32_t slot)
     } else if (it->kind == PAGE) {
         lays_pages(it);
         delivers(slot);
+    } else if (meets_unreadable(it, &lba) && it->kind == READ) {
+        counted.unread++;
+        fails_alone(slot, 0x40, lba);
     } else if (it->kind == READ || it->kind == WRITE) {
         fails_alone(slot, 0x10, first_past(it));
     } else {
@@ -341,11 +373,7 @@ static void written(uint64_t count)
     } else if (answer.left) {
         answer.left -= count;
         it->used += count;
-        it->into += count;
-        if (it->into == it->list[it->piece].bytes) {
-            it->into = 0;
-            it->piece++;
-        }
+        answer.tells = passes(it, count) || answer.tells;
     } else if (answer.counts) {
         answer.counts = false;
     } else {
@@ -382,6 +410,7 @@ static uint32_t next_step(uint32_t slot, uint32_t issued)
 {
     const struct command *it = &slots[slot];
     const bool moves = it->kind == QUEUE || it->kind == READ || it->kind == WRITE;
+    uint64_t lba;
     if (transfer.on && slot == transfer.slot)
         return reg.on && !reg.halted && reg.receiving && !answer.on ? AHCI_STEP_DELIVER : AHCI_STEP_NONE;
     if (it->there && it->kind == CONTROL)
@@ -396,7 +425,7 @@ static uint32_t next_step(uint32_t slot, uint32_t issued)
         return AHCI_STEP_RECOVER;
     if (it->kind == QUEUE)
         return failed || mixed ? AHCI_STEP_EXECUTE : AHCI_STEP_SEND;
-    return moves && !is_aborted(slot) && !is_past(it) ? AHCI_STEP_SEND : AHCI_STEP_EXECUTE;
+    return moves && !is_aborted(slot) && !is_past(it) && !meets_unreadable(it, &lba) ? AHCI_STEP_SEND : AHCI_STEP_EXECUTE;
 }
 
 /* All that the shadow knows, beside what is there. */

@@ -27,7 +27,7 @@ static void follow(uint64_t entries)
             loss_flushes();
         } else if (entry.kind == AHCI_EVENT_COMPLETE) {
             loss_completes(entry.tag);
-            CHECK(it->sent && it->lba + it->sectors <= SECTORS);
+            CHECK(it->sent && it->lba + it->sectors <= has);
             if (it->writes)
                 memcpy(image + it->lba * AHCI_SECTOR_BYTES, it->bytes, size);
             else
@@ -107,8 +107,10 @@ static void lays_identify(uint8_t *to)
     static const uint8_t words[][3] = { { 47, 16, 0x80 }, { 48, 0, 0x40 }, { 49, 0, 0x0F }, { 50, 0, 0x40 },
         { 53, 6, 0 }, { 63, 7, 0 }, { 64, 3, 0 }, { 65, 120, 0 }, { 66, 120, 0 }, { 67, 120, 0 }, { 68, 120, 0 }, { 69, 0, 0x0C },
         { 76, 6, 5 }, { 82, 0x49, 0x30 }, { 83, 8, 0x74 }, { 84, 0x63, 0x41 }, { 85, 8, 0x30 }, { 86, 0, 0xB4 }, { 87, 0x63, 0x41 }, { 88, 0x3F, 0 },
-        { 105, 8, 0 }, { 119, 8, 0x40 }, { 120, 8, 0x40 }, { 169, 1, 0 } };
-    CHECK(ahci_identify_page(SECTORS, depth, to, AHCI_PAGE_BYTES) == AHCI_OK);
+        { 105, 8, 0 }, { 119, 12, 0x40 }, { 120, 12, 0x40 }, { 169, 1, 0 } };
+    CHECK(ahci_identify_page(has, depth, to, AHCI_PAGE_BYTES) == AHCI_OK);
+    for (uint32_t at = 0; at < 20; at++)
+        to[20 + (at ^ 1)] = (uint8_t)serial[at];
     for (size_t i = 0; i < sizeof words / sizeof *words; i++)
         memcpy(to + 2 * words[i][0], words[i] + 1, 2);
     to[2 * 82] |= disk.has_cache ? 0x20 : 0;
@@ -125,7 +127,7 @@ static void lays_identify(uint8_t *to)
 /* The supported capabilities and the current settings of log 30h, of which bit 63 says that they are valid. The capabilities are the bits of words 119, 84, 83, 82 and 69 in turn. */
 static uint64_t capabilities_bits(void)
 {
-    static const uint8_t bits[] = { 2, 7, 8, 11, 12, 16, 20, 22, 23, 25, 27, 28, 35, 36, 63 };
+    static const uint8_t bits[] = { 1, 2, 7, 8, 11, 12, 16, 20, 22, 23, 25, 27, 28, 35, 36, 63 };
     uint64_t all = disk.has_cache ? 1u << 24 : 0;
     for (size_t i = 0; i < sizeof bits; i++)
         all |= (uint64_t)1 << bits[i];
@@ -142,7 +144,7 @@ static void lays_identify_fields(uint8_t *to, uint64_t number, const uint8_t *wo
 {
     const uint64_t valid = (uint64_t)1 << 63;
     switch (number) {
-    case 2: put(to + 8, valid | SECTORS, 8), put(to + 16, valid, 8); break;
+    case 2: put(to + 8, valid | has, 8), put(to + 16, valid, 8); break;
     case 3:
         put(to + 8, capabilities_bits(), 8);
         put(to + 24, valid, 8); /* the rotation rate is not told */
@@ -234,6 +236,9 @@ static void lays_pages(struct command *it)
     }
 }
 
+/* WRITE UNCORRECTABLE EXT, with a value of the features that isn't reserved: a pseudo-uncorrectable or a flagged error, with logging or without. */
+static bool spoils(const uint8_t *fis) { return fis[2] == 0x45 && (fis[3] == 0x55 || fis[3] == 0x5A || fis[3] == 0xA5 || fis[3] == 0xAA); }
+
 /* What a command FIS asks (docs/LAYOUTS.md, "The controller's commands"). A queued command whose TAG is not below the depth is none
    that the disk has, but it is read as one. */
 static void asks(struct command *it, const uint8_t *fis)
@@ -263,6 +268,8 @@ static void asks(struct command *it, const uint8_t *fis)
         it->multiple = is_multiple;
         it->pio = is_multiple || code == 0x20 || code == 0x24 || code == 0x30 || code == 0x34;
         it->sectors = is_short ? (count & 0xFF ? count & 0xFF : 256) : count ? count : 65536;
+    } else if (spoils(fis)) {
+        it->sectors = count ? count : 65536;
     } else if (code == 0xEC || is_buffer(code) || reads_log(code, lba, count) || reads_smart(fis)) {
         const bool is_log = reads_log(code, lba, count);
         it->kind = PAGE;
@@ -278,13 +285,36 @@ static void asks(struct command *it, const uint8_t *fis)
         it->pages = code == 0x06 ? count : 1;
     }
     it->has_48_bits = it->kind != CONTROL && (it->queued || (it->kind == PAGE && (code == 0x2F || code == 0x47)) || (it->kind == STORE && code == 0x06) || code == 0x24
-        || code == 0x25 || code == 0x27 || code == 0x29 || code == 0x39 || code == 0xCE || code == 0x34 || code == 0x35 || code == 0x3D || code == 0x42 || code == 0xEA);
-    it->moved = it->kind == PAGE || it->kind == STORE ? it->pages * AHCI_PAGE_BYTES : code == 0x40 || code == 0x42 ? 0 : (uint64_t)it->sectors * AHCI_SECTOR_BYTES;
+        || code == 0x25 || code == 0x27 || code == 0x29 || code == 0x39 || code == 0xCE || code == 0x34 || code == 0x35 || code == 0x3D || code == 0x42 || code == 0xEA || spoils(fis));
+    it->moved = it->kind == PAGE || it->kind == STORE ? it->pages * AHCI_PAGE_BYTES : code == 0x40 || code == 0x42 || code == 0x45 ? 0 : (uint64_t)it->sectors * AHCI_SECTOR_BYTES;
 }
 
 /* Whether some sector of it is not on the disk, and the first one that is not. */
-static bool is_past(const struct command *it) { return it->lba + it->sectors > SECTORS; }
-static uint64_t first_past(const struct command *it) { return it->lba > SECTORS ? it->lba : SECTORS; }
+static bool is_past(const struct command *it) { return it->lba + it->sectors > has; }
+static uint64_t first_past(const struct command *it) { return it->lba > has ? it->lba : has; }
+
+/* The sectors that it names and the disk has end before this one. */
+static uint64_t end_of(const struct command *it) { return it->lba + it->sectors < has ? it->lba + it->sectors : has; }
+
+/* Whether it reads a sector that can't be read, and the first one. */
+static bool meets_unreadable(const struct command *it, uint64_t *lba)
+{
+    const bool is_read = it->kind == READ || (it->kind == QUEUE && !it->writes) || (it->kind == OTHER && (it->fis[2] == 0x40 || it->fis[2] == 0x42));
+    for (*lba = it->lba; is_read && *lba < end_of(it); ++*lba)
+        if (unreadable[*lba])
+            return true;
+    return false;
+}
+
+/* Its sectors can't be read any more, or can again. */
+static void turns_sectors(const struct command *it, bool bad)
+{
+    for (uint64_t lba = it->lba; lba < end_of(it); lba++) {
+        counted.spoiled += bad;
+        counted.mended += !bad && unreadable[lba];
+        unreadable[lba] = bad;
+    }
+}
 
 /* ---- what is read ---- */
 
@@ -322,6 +352,7 @@ static void reads_list(struct command *it, const uint8_t *bytes, uint64_t count)
         CHECK(it->pieces < PIECES);
         it->list[it->pieces].at = little(bytes + 16 * i, 8) & ~(uint64_t)1;
         it->list[it->pieces].bytes = ((little(bytes + 16 * i + 12, 4) & 0x3FFFFF) | 1) + 1;
+        it->list[it->pieces].asks = bytes[16 * i + 15] >> 7;
         it->room += it->list[it->pieces].bytes;
     }
     fetch.left = it->moved;

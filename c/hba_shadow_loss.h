@@ -28,7 +28,7 @@ static void loss_flushes(void)
 
 static void loss_issues(uint32_t tag, bool is_write, uint64_t lba, uint32_t sectors, const uint8_t *bytes)
 {
-    going[tag].on = is_write && lba < SECTORS && sectors <= SECTORS - lba;
+    going[tag].on = is_write && lba < has && sectors <= has - lba;
     going[tag].lba = lba;
     going[tag].sectors = sectors;
     if (going[tag].on)

@@ -65,7 +65,7 @@ static bool leaves_disk(const struct command *it)
 {
     for (uint64_t at = 0; at < it->moved && at < KEPT; at += 8) {
         const uint64_t lba = little(it->bytes + at, 6), count = little(it->bytes + at + 6, 2);
-        if (count && lba + count > SECTORS)
+        if (count && lba + count > has)
             return true;
     }
     return false;

@@ -43,7 +43,18 @@ static void lost(void)
     exit(1);
 }
 
-/* Two calls have told different things of one port. */
+/* Whether a line is empty or a comment. A comment's bytes are below 128, as in all lines. */
+static bool is_skipped(const char *line)
+{
+    if (*line != '#')
+        return !*line;
+    for (; *line; line++)
+        if ((unsigned char)*line > 127)
+            lost();
+    return true;
+}
+
+/* Two calls have answered differently about one port. */
 static void differs(const char *what)
 {
     fprintf(stderr, "play: line %u: %s\n", line_number, what);
@@ -393,7 +404,7 @@ int main(int count, char **arguments)
         int n = 0;
         line_number++;
         line[strcspn(line, "\n")] = 0;
-        if (!*line || *line == '#')
+        if (is_skipped(line))
             continue;
         while (n < 40) {
             words[n++] = at;

@@ -258,8 +258,28 @@ static int over_a_base(void)
     return lacking;
 }
 
-/* A controller whose journal is trimmed, whose interface fails, whose link is lost and found, whose disk is pulled out and plugged in again and is named, and that is
-   powered on again. */
+/* Another disk is plugged in where one was pulled out. */
+static int exchanged(ahci_hba *hba, const ahci_identity *named)
+{
+    ahci_state before, after;
+    uint64_t entries = 99;
+    int lacking = 0;
+    NONE(ahci_hba_port(hba, &before));
+    uint32_t status = ahci_hba_plug_other(hba, image, sizeof image, 9, 32, named, &entries);
+    if (status == AHCI_OUT_OF_MEMORY) {
+        lacking++;
+        NONE(ahci_hba_port(hba, &after));
+        if (differs(before, after) || entries != 99)
+            wrong("ahci_hba_plug_other", "something has changed");
+        status = ahci_hba_plug_other(hba, image, sizeof image, 9, 32, named, &entries);
+    }
+    if (status != AHCI_OK || entries != 0)
+        wrong("ahci_hba_plug_other", "no other disk is plugged in");
+    return lacking;
+}
+
+/* A controller whose journal is trimmed, whose interface fails, whose link is lost and found, whose disk is pulled out and plugged in again and is named, which gets another disk, and that
+   is powered on again. */
 static int controlled(void)
 {
     ahci_hba hba = AHCI_HBA_EMPTY;
@@ -279,6 +299,9 @@ static int controlled(void)
     NONE(ahci_hba_identity(&hba, &named));
     NONE(ahci_hba_write_cache(&hba, 1));
     NONE(ahci_hba_write_cache_enabled(&hba, &enabled));
+    NONE(ahci_hba_unplug(&hba, &entries));
+    lacking += exchanged(&hba, &named);
+    NONE(ahci_hba_copy(&hba, 8, got, sizeof got));
     NONE(ahci_hba_power_on(&hba, &entries));
     NONE(ahci_hba_free(&hba));
     return lacking;

@@ -15,7 +15,7 @@ const struct event_row event_rows[EVENT_KINDS] = {
     [EVENT_LOSE_LINK] = {"lose_link", ARGUMENT_NONE, SERVER_HBA, SCOPE_CONTROLLER, "the link is lost: PRCS, and the disk drops its commands", "7"},
     [EVENT_FIND_LINK] = {"find_link", ARGUMENT_NONE, SERVER_HBA, SCOPE_CONTROLLER, "the disk makes itself known by COMINIT: PCS, and its signature comes", "6.2.2.3"},
     [EVENT_UNPLUG] = {"unplug", ARGUMENT_NONE, SERVER_HBA, SCOPE_CONTROLLER, "the disk is pulled out: PRCS, and nothing brings the link up", "7"},
-    [EVENT_PLUG] = {"plug", ARGUMENT_NONE, SERVER_HBA, SCOPE_CONTROLLER, "the disk is plugged in again, with the sectors that it had: PCS, and its signature comes", "7"},
+    [EVENT_PLUG] = {"plug", ARGUMENT_DISK, SERVER_HBA, SCOPE_CONTROLLER, "the disk is plugged in again, with the sectors that it had, or another one, with those of FILE or none: PCS, and its signature comes", "7"},
     [EVENT_DECODE_ERROR] = {"decode_error", ARGUMENT_NONE, SERVER_HBA, SCOPE_CONTROLLER, "a character that can't be decoded was received, and the FIS is sent again: INFS, DIAG.B", "6.1.2"},
     [EVENT_FATAL_DECODE_ERROR] = {"fatal_decode_error", ARGUMENT_NONE, SERVER_HBA, SCOPE_CONTROLLER, "a character that can't be decoded was received: IFS, DIAG.B, and the port halts", "6.1.2"},
     [EVENT_CRC_ERROR] = {"crc_error", ARGUMENT_NONE, SERVER_HBA, SCOPE_CONTROLLER, "a FIS was received whose CRC is wrong, and the FIS is sent again: INFS, DIAG.C", "6.1.2"},
@@ -46,7 +46,7 @@ const struct event_row event_rows[EVENT_KINDS] = {
 };
 
 const char *event_arguments(enum event_kind kind) {
-    static const char *const texts[] = {[ARGUMENT_NONE] = "", [ARGUMENT_ERROR] = "EE", [ARGUMENT_STATUS] = "SS", [ARGUMENT_DELAY] = "TIME[+JITTER]", [ARGUMENT_TIME] = "TIME", [ARGUMENT_SEED] = "[seed N]"};
+    static const char *const texts[] = {[ARGUMENT_NONE] = "", [ARGUMENT_ERROR] = "EE", [ARGUMENT_STATUS] = "SS", [ARGUMENT_DELAY] = "TIME[+JITTER]", [ARGUMENT_TIME] = "TIME", [ARGUMENT_SEED] = "[seed N]", [ARGUMENT_DISK] = "[another [FILE]]"};
     return texts[event_rows[kind].argument];
 }
 

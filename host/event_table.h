@@ -61,7 +61,8 @@ enum argument {
     ARGUMENT_STATUS, /* SS: a status byte */
     ARGUMENT_DELAY,  /* TIME or TIME+JITTER, each at most MOST_DELAY */
     ARGUMENT_TIME,   /* TIME */
-    ARGUMENT_SEED    /* nothing, or seed N */
+    ARGUMENT_SEED,   /* nothing, or seed N */
+    ARGUMENT_DISK    /* nothing, or another, or another FILE: the disk's image */
 };
 
 /* What an event is about. */
@@ -83,7 +84,7 @@ struct event_row {
 
 extern const struct event_row event_rows[EVENT_KINDS];
 
-/* The arguments as they are written: "EE", "SS", "TIME[+JITTER]", "TIME", "[seed N]" or "". */
+/* The arguments as they are written: "EE", "SS", "TIME[+JITTER]", "TIME", "[seed N]", "[another [FILE]]" or "". */
 const char *event_arguments(enum event_kind kind);
 
 /* The name of one server: "hba" or "nbd". */

@@ -12,6 +12,7 @@
 
 #define MOST_LINES 1024  /* of a script, with those of options */
 #define MOST_EVENTS 16   /* of a line */
+#define MOST_NAMED 1001  /* characters of the names of files in a line, which has at most 1,000 */
 #define MOST_PRINTED 2048 /* characters of a line as it is printed */
 #define NO_END UINT64_MAX
 #define MOST_PATH 4096
@@ -23,6 +24,8 @@ struct event {
     uint64_t time;      /* ARGUMENT_TIME: microseconds */
     bool has_seed;      /* ARGUMENT_SEED */
     uint64_t seed;      /* the line's, if none is given */
+    bool is_other;      /* ARGUMENT_DISK: another disk */
+    uint16_t file;      /* its image: a place in the line's `files`, counted from 1; 0: it has none */
 };
 
 /* What a line waits for. */
@@ -50,6 +53,8 @@ struct line {
     unsigned count;
     unsigned about_command; /* how many of the events, from the first on, are about the command itself */
     struct event events[MOST_EVENTS];
+    char files[MOST_NAMED]; /* the names that events have, each with a 0 byte after it */
+    uint16_t named;         /* characters of them */
     /* so far */
     uint64_t random;   /* the state of the generator */
     uint64_t matched;  /* how often the conditions held */
@@ -98,6 +103,9 @@ void line_begin(struct line *line, uint64_t seed);
 
 /* Parses the words of a line for a server. It returns false after it has printed what was expected. */
 bool line_take(struct line *line, struct words *words, unsigned server, uint64_t seed);
+
+/* The file that an event of a line names; NULL if it names none. */
+const char *line_file(const struct line *line, const struct event *event);
 
 /* Writes a line as it can be parsed again, and always in the same form. */
 void line_print(const struct line *line, char text[MOST_PRINTED]);

@@ -227,6 +227,29 @@ static bool fits(struct parsing *it, enum event_kind kind) {
     return true;
 }
 
+/* Keeps the name of a file in the line. */
+static uint16_t keep_file(struct line *line, const char *name) {
+    const uint16_t place = (uint16_t)(line->named + 1);
+    const size_t length = strlen(name) + 1;
+    memcpy(line->files + line->named, name, length);
+    line->named = (uint16_t)(line->named + length);
+    return place;
+}
+
+/* Nothing, or `another`, perhaps with its image, which a word names that the line doesn't go on with. */
+static bool take_disk(struct parsing *it, struct event *event) {
+    event->is_other = words_take(it->words, "another");
+    if (!event->is_other || !*words_next(it->words) || words_are_at(it->words, "then") || words_are_at(it->words, "repeat"))
+        return true;
+    event->file = keep_file(it->line, words_next(it->words));
+    it->words->at++;
+    return true;
+}
+
+const char *line_file(const struct line *line, const struct event *event) {
+    return event->file ? line->files + event->file - 1 : NULL;
+}
+
 static bool take_argument(struct parsing *it, struct event *event) {
     const char *word = words_next(it->words);
     switch (event_rows[event->kind].argument) {
@@ -241,6 +264,8 @@ static bool take_argument(struct parsing *it, struct event *event) {
     case ARGUMENT_SEED:
         event->has_seed = words_take(it->words, "seed");
         return !event->has_seed || is_whole(it, take_digits(words_next(it->words), &event->seed), "a number");
+    case ARGUMENT_DISK:
+        return take_disk(it, event);
     default:
         return true;
     }

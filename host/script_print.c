@@ -104,7 +104,7 @@ static void add_conditions(struct text *text, const struct line *line) {
 
 /* ---- events ---- */
 
-static void add_event(struct text *text, const struct event *event) {
+static void add_event(struct text *text, const struct line *line, const struct event *event) {
     add(text, " %s", event_rows[event->kind].name);
     switch (event_rows[event->kind].argument) {
     case ARGUMENT_ERROR:
@@ -127,6 +127,12 @@ static void add_event(struct text *text, const struct event *event) {
         if (event->has_seed)
             add(text, " seed %" PRIu64, event->seed);
         break;
+    case ARGUMENT_DISK:
+        if (event->is_other)
+            add(text, " another");
+        if (event->file)
+            add(text, " %s", line_file(line, event));
+        break;
     default:
         break;
     }
@@ -145,7 +151,7 @@ void line_print(const struct line *line, char text[MOST_PRINTED]) {
     for (unsigned at = 0; at < line->count; at++) {
         if (at)
             add(&it, " then");
-        add_event(&it, &line->events[at]);
+        add_event(&it, line, &line->events[at]);
     }
     if (!is_plain(line) && line->most == NO_END)
         add(&it, " repeat ever");

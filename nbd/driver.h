@@ -43,7 +43,7 @@ struct driver {
     struct settings *settings;
     struct request *first, **last; /* those that wait for a slot, the oldest first */
     struct request *unsafe;        /* writes with FUA that are done, and wait until they are in the image */
-    struct request *answered;      /* those that have an outcome, and are not told yet */
+    struct request *answered;      /* those that have an outcome, and are not reported yet */
     struct command commands[AHCI_MOST_TAGS];
     uint32_t owned;    /* tags with a request, as bits */
     uint32_t issued;   /* those that the device has not accepted yet */

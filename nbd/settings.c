@@ -35,7 +35,8 @@ const char settings_help[] =
     "                     host/README.md has the language; what never happened is said at the end\n"
     "most-journal=BYTES   size of the port's journal at which it is trimmed (default: 4 times the disk's\n"
     "                     size, at least 4M and at most 256M)\n"
-    "record=FOLDER        a record of all that happens; host/stretch turns any part of it into a script\n"
+    "record=FOLDER        a record of all that happens; ahci-stretch (host/stretch) turns any part of it into\n"
+    "                     a script\n"
     "record-limit=BYTES   the oldest half of the record is dropped so that it has no more bytes. BYTES may\n"
     "                     have a unit: 512K, 64M, 1G";
 

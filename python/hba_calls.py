@@ -169,6 +169,19 @@ with Hba(bytes(SECTORS * 512), depth=32) as hba:
     assert hba.read(PXSSTS) == 0 and hba.copy(5) == b"\xAA" * 512
     hba.plug()
     assert hba.read(PXSSTS) & 15 == 3
+
+    # another disk is plugged in where one was pulled out: it has sectors of its own, and the numbers of its journal go on
+    other, name = bytearray(b"\x55" * 1024), ahci.Identity(serial="00000002")
+    refused(ahci.Status.NOT_READY, lambda: hba.plug_other(other, 8, 4, name))
+    assert hba.unplug() == 0
+    before = hba.port().next
+    refused(ahci.Status.BAD_SIZE, lambda: hba.plug_other(other, 0, 4, name))
+    refused(ahci.Status.BAD_DEPTH, lambda: hba.plug_other(other, 8, 33, name))
+    refused(ahci.Status.BAD_KIND, lambda: hba.plug_other(other, 8, 4, ahci.Identity(serial="\n")))
+    assert hba.copy(5) == b"\xAA" * 512 and hba.read(PXSSTS) == 0
+    assert hba.plug_other(other, 8, 4, name) == 0
+    assert (hba.read(PXSSTS) & 15, hba.look().depth, hba.port().sectors, hba.port().first, hba.port().next) == (3, 4, 8, before, before)
+    assert hba.copy(1) == b"\x55" * 512 and hba.copy(2) == bytes(512) and hba.touched() == []
     refused(ahci.Status.BAD_KIND, lambda: hba.fail_interface(20, True))  # type: ignore[arg-type]
 
 header, fis = struct.pack("<HHIQ16x", 5, 1, 0, TABLES), queued(0x60, 2, 5).ljust(20, b"\0")

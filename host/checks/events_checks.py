@@ -56,6 +56,8 @@ RIGHT_FOR_HBA: Dict[str, str] = {
     "on first write PxSIG do power_loss": "on first write PxSIG do power_loss", "on time 2s do power_loss seed 0 repeat 2": "on time 2s do power_loss seed 0 repeat 2",
     "on every any seed 3 do power_loss seed 18446744073709551615 then power_loss": "on every any seed 3 do power_loss seed 18446744073709551615 then power_loss",
     "on first write do no_memory then lose_interrupt": "on first write do no_memory then lose_interrupt",
+    "on time 1s do unplug then plug another then unplug then plug": "on time 1s do unplug then plug another then unplug then plug",
+    "on time 1s do plug another  ./b.img then plug another another then plug another c repeat 2": "on time 1s do plug another ./b.img then plug another another then plug another c repeat 2",
 }
 
 
@@ -109,10 +111,12 @@ WRONG: Sequence[Tuple[str, int, str, str]] = (
     ("on 2nd write PxCMD do stall", 23, "an event that is about no command, since none is at hand", "stall"),
     ("on 2nd write PxCMD sector 5 do power_on", 20, "do, during, probability or seed, since a register is written", "sector"),
     ("on 2nd sector 5 write PxCMD do power_on", 23, "do or a condition, and no register beside sectors, tags or numbers of commands", "PxCMD"),
+    ("on time 1s do plug other", 20, "then, repeat or the end of the line", "other"), ("on time 1s do plug b.img", 20, "then, repeat or the end of the line", "b.img"),
+    ("on time 1s do plug another b.img c.img", 34, "then, repeat or the end of the line", "c.img"),
     ("on 2nd write PxFOO do power_on", 14, "a register, such as PxCMD", "PxFOO"),
 )
 WRONG_FOR_NBD: Sequence[Tuple[str, int, str, str]] = (
-    ("on 2nd any do stall", 15, NBD_EVENTS, "stall"), ("on time 1s do power_on", 15, NBD_EVENTS, "power_on"),
+    ("on 2nd any do stall", 15, NBD_EVENTS, "stall"), ("on time 1s do plug another b.img", 15, NBD_EVENTS, "plug"), ("on time 1s do power_on", 15, NBD_EVENTS, "power_on"),
     ("on 2nd write PxCMD do fail 40", 14, "a condition of commands, since nbd has no registers", "PxCMD"),
     ("on 2nd IDENTIFY DEVICE do fail 40", 8, "READ FPDMA QUEUED or WRITE FPDMA QUEUED, which are all that nbd issues", "IDENTIFY"),
 )
@@ -172,6 +176,7 @@ def decisions(room: str) -> str:
         ("on first any do lose_interrupt then wait 1ms then lose_interrupt", [READ, "time 1000"], ["1 lose_interrupt", "1 lose_interrupt"]),
         ("on time 1s do power_on repeat 2", ["time 999999", "time 1000000", "time 1999999", "time 5000000"], ["", "1 power_on", "", "1 power_on"]),
         ("on first any do power_loss\non 2nd any seed 9 do power_loss then power_loss seed 4", [READ, "time 0", READ, "time 0"], ["", "1 power_loss 1", "", "2 power_loss 9; 2 power_loss 4"]),
+        ("on time 1s do plug another b.img then plug another then plug then plug another c", ["time 1000000"], ["1 plug another b.img; 1 plug another; 1 plug; 1 plug another c"]),
         ("on time 1s do power_on then wait 3s then send_interrupt repeat 2", ["time 1000000", "time 4000000", "time 5000000", "time 9000000"], ["1 power_on", "1 send_interrupt", "1 power_on", "1 send_interrupt"]),
         ("on 2nd write PxSCTL do late_interrupt 5us", ["wrote 12c 4 0", "wrote 128 4 0", "wrote 130 4 0", "time 0", "wrote 128 8 0", "time 0"], ["", "", "", "", "", "1 late_interrupt 5"]),
         ("on every any do wait 1ms then send_interrupt", [READ, READ, "time 1000", READ, "time 1000"], ["", "", "1 send_interrupt", "", "1 send_interrupt"]),

@@ -31,6 +31,8 @@ static void print_event(const struct decision *it) {
         printf(" %" PRIu64, event->time);
     if (event->kind == EVENT_POWER_LOSS)
         printf(" %" PRIu64, event->seed);
+    if (event->is_other)
+        printf(" another%s%s", event->file ? " " : "", event->file ? line_file(it->line, event) : "");
     printf("; ");
 }
 

@@ -32,6 +32,15 @@ def _text(text: str, name: str, characters: int) -> builtins.bytes:
     return spelt.ljust(characters)
 
 
+def _named(identity: Identity) -> IdentityStruct:
+    """What names a disk, as the library takes it."""
+    made = IdentityStruct()
+    for name, text, characters in (("serial", identity.serial, 20), ("firmware", identity.firmware, 8), ("model", identity.model, 40)):
+        ctypes.memmove(getattr(made, name), _text(text, name, characters), characters)
+    made.rotation = fits(identity.rotation, 32, "rotation")
+    return made
+
+
 class Hba(Owner):
     """A controller, which is freed with its object, or by `free`, or at the end of a `with`. Threads may share it."""
 
@@ -75,11 +84,7 @@ class Hba(Owner):
 
     def identity(self, identity: Identity) -> None:
         """What IDENTIFY DEVICE names the disk from now on."""
-        made = IdentityStruct()
-        for name, text, characters in (("serial", identity.serial, 20), ("firmware", identity.firmware, 8), ("model", identity.model, 40)):
-            ctypes.memmove(getattr(made, name), _text(text, name, characters), characters)
-        made.rotation = fits(identity.rotation, 32, "rotation")
-        self._call("identity", ctypes.byref(made))
+        self._call("identity", ctypes.byref(_named(identity)))
 
     def write_cache(self, supported: bool) -> None:
         """The disk has a volatile write cache, which is enabled from now on, or it has none."""
@@ -105,6 +110,16 @@ class Hba(Owner):
     def plug(self) -> None:
         """The disk is plugged in again, with the sectors that it had."""
         self._call("plug")
+
+    def plug_other(self, base: Bytes, sectors: int, depth: int, identity: Identity) -> int:
+        """Another disk is plugged in where one was pulled out, over a base as `over` has it: one that has never been used, with another name and queue depth.
+        Returns how many entries the journal of the disk had that was pulled out, which is discarded with its sectors."""
+        where, count = kept = given(base)
+        named = _named(identity)
+        with self._lock:
+            entries = self._number("plug_other", u64, where, count, fits(sectors, 32, "sectors"), fits(depth, 32, "depth"), ctypes.byref(named))
+            self._base = kept  # the library reads the one before no more
+        return entries
 
     def fail_interface(self, error: InterfaceError, is_fatal: bool) -> None:
         """A FIS meets an error of the interface, which stops the port if it is fatal."""

@@ -173,6 +173,7 @@ CALLS: Dict[str, List[Any]] = {
     "hba_find_link": [to(HbaPlace)],
     "hba_unplug": [to(HbaPlace), to(u64)],
     "hba_plug": [to(HbaPlace)],
+    "hba_plug_other": [to(HbaPlace), text, size, u32, u32, to(IdentityStruct), to(u64)],
     "hba_fail_interface": [to(HbaPlace), u32, u32],
     "hba_sign_as": [to(HbaPlace), u32],
     "hba_receive_bits": [to(HbaPlace), u32],
