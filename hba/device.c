@@ -10,6 +10,7 @@
 #include <stdlib.h>
 #include <time.h>
 
+#define WRITE_UNCORRECTABLE_EXT 0x45
 #define SECOND UINT64_C(1000000000)
 #define RETRY UINT64_C(10000000) /* nanoseconds until a step that got no memory is tried again */
 
@@ -128,6 +129,16 @@ static void note_flush(struct device *device, const struct command *command) {
         cache_flush(&device->cache);
 }
 
+/* A queued read may have failed at a sector that WRITE UNCORRECTABLE EXT has marked. */
+static void note_marked(struct device *device, uint32_t slot) {
+    ahci_entry entry;
+    if (!device->marks || !history_has_failed(device, slot, &entry))
+        return;
+    log_line("fail %" PRIu32 " with %02" PRIx32 " at sector %" PRIu64 ", which is marked uncorrectable", slot, entry.error, entry.lba);
+    recovery_event(&device->judge, &device->hba, EVENT_FAIL, 0, slot);
+    provoke_answer(device, slot);
+}
+
 /* What the library's step of a slot means here. */
 static void note_step(struct device *device, uint32_t slot, uint8_t kind) {
     struct task *task = &device->tasks[slot];
@@ -144,8 +155,12 @@ static void note_step(struct device *device, uint32_t slot, uint8_t kind) {
     }
     if (kind == AHCI_STEP_SERVE && task->command.writes)
         mapped_wrote(&device->settings->mapped, (uint32_t)task->command.lba, task->command.sectors);
-    if (kind == AHCI_STEP_EXECUTE)
+    if (kind == AHCI_STEP_SERVE && task->command.queued && !task->command.writes)
+        note_marked(device, slot);
+    if (kind == AHCI_STEP_EXECUTE) {
+        device->marks |= task->command.code == WRITE_UNCORRECTABLE_EXT;
         note_flush(device, &task->command);
+    }
 }
 
 /* Makes room for what a step of a slot's command adds to the image and to the cache. It returns false if there is no memory. */
@@ -331,6 +346,7 @@ int device_make(struct device *device) {
     if (mapped_map(&settings->mapped))
         return -1;
     device->is_over = settings->sectors > AHCI_MOST_SECTORS;
+    device->is_out = false;
     uint32_t status = device->is_over ? make_over(&device->hba, settings) : make_whole(&device->hba, settings);
     if (status == AHCI_OK) {
         device_must("ahci_hba_identity", ahci_hba_identity(&device->hba, &settings->identity));
@@ -362,7 +378,7 @@ int device_begin(struct device *device, struct settings *settings, struct memory
 int device_end(struct device *device, int *broken) {
     writeback_end(&device->writeback);
     int failed = mapped_write(&device->settings->mapped, &device->disk) ? -1 : 0;
-    if (history_end(&device->history))
+    if (history_end(&device->history) || other_end(&device->other))
         failed = -1;
     *broken = judge_end(&device->judge);
     if (*broken < 0)

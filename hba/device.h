@@ -9,6 +9,7 @@
 #include "history.h"
 #include "judge.h"
 #include "memory.h"
+#include "other.h"
 #include "provoke.h"
 #include "settings.h"
 #include "slow.h"
@@ -40,6 +41,8 @@ struct device {
     ahci_hba_state state;  /* what the controller does next */
     struct disk disk;      /* its sectors, for the image and the record */
     bool is_over;          /* the disk is over the image, and not in memory as a whole */
+    bool is_out;           /* it is pulled out */
+    struct other other;    /* the disks that were plugged in after it */
     struct cache cache;    /* writes that a loss of power may lose */
     uint64_t losses;       /* how many there were */
     struct history history;
@@ -50,6 +53,7 @@ struct device {
     uint64_t commands; /* how many that name sectors were read */
     uint32_t reading; /* the slot whose command is read */
     uint32_t runs;    /* how many runs of it were read */
+    bool marks;        /* a WRITE UNCORRECTABLE EXT was carried out */
     uint32_t answered; /* the slot whose answer was begun last */
     uint32_t stuck;   /* slots whose step was refused, until the driver writes a register */
     uint32_t stalled; /* slots whose command is never answered, until the driver drops it */
@@ -88,6 +92,7 @@ void device_lose_link(struct device *device);
 void device_find_link(struct device *device);
 void device_unplug(struct device *device);
 void device_plug(struct device *device);
+void device_plug_other(struct device *device, const char *file);
 void device_fail_interface(struct device *device, ahci_interface_error error, bool is_fatal);
 
 /* Sends a FIS that no command asks for. It returns false if the port doesn't accept it now. */

@@ -70,6 +70,11 @@ static uint64_t next_number(ahci_hba *hba) {
     return ahci_hba_port(hba, &state) == AHCI_OK ? state.next : 0;
 }
 
+bool history_has_failed(struct device *device, uint32_t slot, ahci_entry *entry) {
+    uint64_t next = next_number(&device->hba);
+    return next && ahci_hba_entry(&device->hba, next - 1, entry) == AHCI_OK && entry->kind == AHCI_EVENT_FAIL && entry->tag == slot;
+}
+
 /* What the record gets when the journal was handed out. The two entries of a recovery were handed out with it. */
 static void put_end(struct device *device, bool has_recovered) {
     struct history *history = &device->history;
@@ -227,10 +232,13 @@ void history_take_event(struct history *history) {
 
 /* ---- beginning and end ---- */
 
-int history_begin(struct device *device) {
-    const struct settings *settings = device->settings;
+int history_begin_anew(struct device *device, const char *folder) {
     device->history = (struct history){.seen = next_number(&device->hba)};
-    return scribe_begin(&device->history.scribe, settings->record, settings->record_limit, &device->disk, AHCI_MOST_TAGS);
+    return scribe_begin(&device->history.scribe, folder, device->settings->record_limit, &device->disk, AHCI_MOST_TAGS);
+}
+
+int history_begin(struct device *device) {
+    return history_begin_anew(device, device->settings->record);
 }
 
 int history_end(struct history *history) {

@@ -26,6 +26,9 @@ int history_begin(struct device *device);
 /* Counts what the step of a slot's command has added to the journal. */
 void history_count(struct device *device, uint32_t slot, uint8_t step);
 
+/* Whether the last thing that the queue did was to fail the command of a slot, and with which entry. */
+bool history_has_failed(struct device *device, uint32_t slot, ahci_entry *entry);
+
 /* Hands what the queue has done since the last call to the record. If the journal was handed out (`entries` is not 0), by a reset that dropped
    commands or by a recovery, the record has that too. */
 void history_follow(struct device *device, uint64_t entries, bool has_recovered);
@@ -58,5 +61,8 @@ void history_take_event(struct history *history);
 
 /* Ends the record. It returns 0, or -1 if it ended before its time. */
 int history_end(struct history *history);
+
+/* Begins the record of the disk that is there now, in another folder, after the one of the disk before has ended. It returns 0, or -1 once it has printed why. */
+int history_begin_anew(struct device *device, const char *folder);
 
 #endif

@@ -17,7 +17,7 @@
 
 static volatile sig_atomic_t stopped; /* a signal has ended the run */
 static volatile sig_atomic_t child_changed;
-static uint64_t deadline; /* of the guest's program to end, in nanoseconds of CLOCK_MONOTONIC; 0 before it was told to */
+static uint64_t deadline; /* of the guest's program to end, in nanoseconds of CLOCK_MONOTONIC; 0 before it was asked to */
 static sigset_t waiting; /* the mask while the loop waits: signals come only then */
 
 static void note_signal(int number) {

@@ -13,10 +13,10 @@ void loop_begin(void);
 /* Serves the guest until it is gone, or its program has ended, or a signal came. It returns 0, or -1 once it has printed what went wrong. */
 int loop_run(struct pci *pci, struct transport transport);
 
-/* Serves the guest until its program has ended, which was told to, for so many seconds at most. */
+/* Serves the guest until its program, which was asked to end, has done so, for so many seconds at most. */
 void loop_finish(struct pci *pci, struct transport transport, unsigned seconds);
 
-/* Whether a signal has told this program to end. */
+/* Whether a signal has asked this program to end. */
 bool loop_is_stopped(void);
 
 #endif

@@ -41,8 +41,8 @@ static void say_end(int status, bool by_proxy) {
         say("the guest's program was ended by signal %d", WTERMSIG(status));
 }
 
-/* Ends the guest's program if it has not ended: at once if this one was told to stop, or could not serve it. It returns 0 if it ended with status
-   0 or since this program was told to stop. */
+/* Ends the guest's program if it has not ended: at once if this one was asked to stop, or could not serve it. It returns 0 if it ended with status
+   0 or since this program was asked to stop. */
 static int end_child(pid_t child, bool has_failed, bool by_proxy) {
     int status = 0;
     if (loop_is_stopped() || has_failed)
@@ -110,6 +110,11 @@ static int run_with_uml(const struct settings *settings, struct device *device, 
     return child < 0 ? -1 : end_child(child, has_failed, false);
 }
 
+/* Whether QEMU is not started: it has no other way than the proxy, and is known to crash by that. As all that asks QEMU, it comes before signals are taken. */
+static bool is_hopeless(const struct settings *settings, bool by_vfio_user) {
+    return settings->guest == GUEST_QEMU && !by_vfio_user && run_crashes_by_proxy(settings->command) && settings->way == WAY_ASKED;
+}
+
 static bool is_by_vfio_user(const struct settings *settings) {
     if (settings->guest == GUEST_QEMU && settings->way == WAY_ASKED)
         return run_has_vfio_user(settings->command);
@@ -124,7 +129,7 @@ static int run(struct settings *settings) {
     const bool by_vfio_user = is_by_vfio_user(settings);
     if (!settings->has_hold && (!by_vfio_user || settings->judge))
         settings->hold.longest = 0;
-    if (device_begin(&device, settings, &memory))
+    if (is_hopeless(settings, by_vfio_user) || device_begin(&device, settings, &memory))
         return 1;
     memory_begin();
     loop_begin();

@@ -33,7 +33,7 @@ static bool overlaps(const struct memory *memory, const struct region *wanted) {
     return false;
 }
 
-/* Whether a file has all bytes of a region. One whose size can't be told is taken as it is. */
+/* Whether a file has all bytes of a region. One whose size isn't known is taken as it is. */
 static bool has_bytes(int file, uint64_t offset, uint64_t bytes) {
     struct stat found;
     if (fstat(file, &found))
@@ -104,7 +104,7 @@ void memory_begin(void) {
     sigaction(SIGBUS, &action, NULL);
 }
 
-/* Copies bytes of which some may be in a file that its owner makes shorter meanwhile: the system tells that by SIGBUS. */
+/* Copies bytes of which some may be in a file that its owner makes shorter meanwhile: the system reports that by SIGBUS. */
 static bool copy(uint8_t *to, const uint8_t *from, size_t count) {
     bool is_whole = sigsetjmp(gone, 0) == 0;
     if (is_whole) {

@@ -53,8 +53,10 @@ static void unplug(struct device *device, const struct event *event) {
 }
 
 static void plug(struct device *device, const struct event *event) {
-    (void)event;
-    device_plug(device);
+    if (event->is_other)
+        device_plug_other(device, device->provoked.file);
+    else
+        device_plug(device);
 }
 
 /* The signature that comes next, and FISes that no command asks for. */
@@ -189,6 +191,7 @@ void provoke_take(struct pci *pci) {
         const enum event_kind kind = due.event->kind;
         log_line("%s, by line %u", event_rows[kind].name, due.line->row);
         recovery_event(&pci->device->judge, &pci->device->hba, kind, due.line->row, NO_SLOT);
+        pci->device->provoked.file = line_file(due.line, due.event);
         if (on_device[kind])
             on_device[kind](pci->device, due.event);
         else if (on_function[kind])

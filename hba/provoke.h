@@ -30,6 +30,7 @@ struct provoked {
     uint32_t lost_signatures; /* so many signatures don't come */
     bool spoils_log;          /* the next log 10h that is read is wrong */
     enum event_kind log;      /* in this way */
+    const char *file;         /* that the event at hand names, or NULL */
 };
 
 /* Microseconds since the start. */

@@ -147,6 +147,11 @@ void recovery_power_on(struct judge *judge) {
         requests_drop(&judge->recovery);
 }
 
+void recovery_exchange(struct judge *judge) {
+    if (judge->recovery.is_open)
+        requests_leave(&judge->recovery);
+}
+
 void recovery_end(struct judge *judge) {
     if (judge->recovery.is_open)
         close_report(judge, ENDING_RUN);

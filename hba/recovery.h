@@ -130,6 +130,9 @@ void recovery_read(struct judge *judge, ahci_hba *hba, uint32_t offset, uint32_t
 /* The function was reset: nothing is outstanding any more. */
 void recovery_power_on(struct judge *judge);
 
+/* Another disk has come: no command that was outstanding can be issued again. */
+void recovery_exchange(struct judge *judge);
+
 /* The command FIS of a slot was read; `table` is where its table is. */
 void recovery_command(struct judge *judge, uint32_t slot, const uint8_t *fis, uint64_t table, uint32_t entries);
 
@@ -161,6 +164,9 @@ void requests_fail(struct recovery *recovery, uint32_t slot);
 
 /* Nothing is outstanding any more. */
 void requests_drop(struct recovery *recovery);
+
+/* Counts what became of them so far, and forgets them: a command of the same sectors is another one now. */
+void requests_leave(struct recovery *recovery);
 
 /* A command was read: it may be one of them again. */
 void requests_match(struct recovery *recovery, uint32_t slot, const struct command *command, uint64_t data);

@@ -128,6 +128,11 @@ void requests_drop(struct recovery *recovery) {
     }
 }
 
+void requests_leave(struct recovery *recovery) {
+    while (recovery->count)
+        conclude_first(recovery);
+}
+
 /* Whether a command moves sectors of a request, and none besides or all of them; one without sectors has to be the same command. */
 static bool is_same(const struct command *request, const struct command *it) {
     uint64_t end = request->lba + request->sectors, its_end = it->lba + it->sectors;

@@ -104,12 +104,19 @@ void device_find_link(struct device *device) {
 void device_unplug(struct device *device) {
     uint64_t entries = 0;
     device_must("ahci_hba_unplug", ahci_hba_unplug(&device->hba, &entries));
+    device->is_out = true;
     follow_loss(device, entries);
 }
 
 void device_plug(struct device *device) {
     device_must("ahci_hba_plug", ahci_hba_plug(&device->hba));
+    device->is_out = false;
     follow(device, 0);
+}
+
+void device_plug_other(struct device *device, const char *file) {
+    if (other_plug(device, file))
+        follow_loss(device, 0);
 }
 
 void device_fail_interface(struct device *device, ahci_interface_error error, bool is_fatal) {

@@ -224,20 +224,39 @@ static void read_answer(char **words, char *text, size_t room) {
         continue;
 }
 
-/* QEMU ends with status 0, too, if it does not know the device, so the text counts. */
-bool run_has_vfio_user(char *const *command) {
-    char text[256] = "";
+/* What the QEMU of a command prints when it is asked by an option, with its value if there is one. False if the command names no QEMU. */
+static bool ask(char *const *command, char *option, char *value, char *text, size_t room) {
     struct line line;
     size_t program = words_of_program(command);
+    text[0] = 0;
     if (program == 0 || begin_line(&line, command))
-        return true;
+        return false;
     line.count = program;
-    add(&line, "-device");
-    add(&line, "vfio-user-pci,help");
+    add(&line, option);
+    if (value)
+        add(&line, value);
     line.words[line.count] = NULL;
-    read_answer(line.words, text, sizeof text);
+    read_answer(line.words, text, room);
     free(line.words);
-    return strstr(text, "vfio-user-pci options");
+    return true;
+}
+
+/* QEMU ends with status 0, too, if it does not know the device, so the text counts. */
+bool run_has_vfio_user(char *const *command) {
+    char text[256];
+    return !ask(command, "-device", "vfio-user-pci,help", text, sizeof text) || strstr(text, "vfio-user-pci options");
+}
+
+bool run_crashes_by_proxy(char *const *command) {
+    char text[256];
+    unsigned major = 0, minor = 0;
+    if (!ask(command, "--version", NULL, text, sizeof text) || sscanf(text, "QEMU emulator version %u.%u", &major, &minor) != 2)
+        return false;
+    if (major >= 10)
+        say("QEMU %u.%u crashes with the device of --transport proxy; QEMU 7.2 has the controller by it, and QEMU 10.1 or later by vfio-user", major, minor);
+    else if (major != 7 || minor != 2)
+        say("QEMU %u.%u was not tried with the device of --transport proxy; QEMU 7.2 was", major, minor);
+    return major >= 10;
 }
 
 #define DEVICE_ROOM 256 /* bytes of the device's argument */

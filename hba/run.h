@@ -13,6 +13,9 @@
    command in which no word names a QEMU is not asked, and has it. */
 bool run_has_vfio_user(char *const *command);
 
+/* Whether the command's QEMU is known to crash with the device x-pci-proxy-dev, by its version, once that was said. Of one that was not tried it is said, too. */
+bool run_crashes_by_proxy(char *const *command);
+
 /* Starts QEMU with the command and what is missing of: a memory backend that can be shared, and the device vfio-user-pci at a socket. It returns
    the process, or -1 once the reason was written to standard error; so does each call here. */
 pid_t run_vfio_user(char *const *command, const char *socket_path);

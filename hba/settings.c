@@ -3,6 +3,7 @@
 #include "capabilities.h"
 #include "identity.h"
 #include "options.h"
+#include "other.h"
 #include "record.h"
 #include "rules.h"
 #include "say.h"
@@ -52,10 +53,10 @@ static const char help[] =
     "                               link power management; pmd, PIO of several blocks. (default\n"
     "                               ncs=32,iss=2,s64a=1,sncq=1,sss=0,sclo=1,salp=0,pmd=1) A driver takes other paths then: with\n"
     "                               sncq=0,s64a=0 it queues no command and keeps its memory below 4 GiB\n"
-    "      --model TEXT             The model number that IDENTIFY DEVICE tells, of at most 40 characters (default SOFTWARE NCQ DISK)\n"
+    "      --model TEXT             The model number in IDENTIFY DEVICE, of at most 40 characters (default SOFTWARE NCQ DISK)\n"
     "      --serial TEXT            The serial number, of at most 20 (default 00000001)\n"
     "      --firmware TEXT          The firmware revision, of at most 8 (default 1.0)\n"
-    "      --rpm N                  The rotation rate: 0, not told; 1, a disk that doesn't rotate; or 1025 to 65534 (default 0)\n"
+    "      --rpm N                  The rotation rate: 0, not reported; 1, a disk that doesn't rotate; or 1025 to 65534 (default 0)\n"
     "      --write-cache            The disk has a volatile write cache, which IDENTIFY DEVICE reports, so that the guest flushes it: with --sync\n"
     "                               flush the image has then what the guest has flushed. A power_loss of a script may lose writes that were\n"
     "                               answered, unless a flush came after them, they have FUA, or the\n"
@@ -280,7 +281,8 @@ static int settle(struct settings *settings) {
         settings->most_journal = usual_journal(settings->sectors);
     if (settings->script_file && script_read(settings->script, settings->script_file, SERVER_HBA))
         return -1;
-    return look_at_losses(settings) ? -1 : script_complete(settings->script, settings->sectors);
+    uint32_t most = settings->sectors;
+    return look_at_losses(settings) || other_check(settings, &most) ? -1 : script_complete(settings->script, most);
 }
 
 /* Whether a word is an option without a value, which is taken. */

@@ -129,7 +129,7 @@ static int take_trigger(struct vfio_interrupts *interrupts, uint32_t index, stru
     return 0;
 }
 
-/* The actions that come with eventfds. A mask's would tell the other side that the guest has masked INTx, which it does itself. */
+/* The actions that come with eventfds. A mask's would report to the other side that the guest has masked INTx, which it does itself. */
 static int set_files(struct vfio_interrupts *interrupts, const struct vfio_irq_set *set, struct files *files) {
     if (set->flags & VFIO_SET_TRIGGER)
         return take_trigger(interrupts, set->index, files);

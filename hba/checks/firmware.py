@@ -136,7 +136,7 @@ ROWS: Sequence[Row] = (
     Row("the disk is pulled out", "{read} do unplug", (GIVEN_UP, GIVEN_UP, GIVEN_UP)),
     Row("the disk is pulled out, and is back a second later", "{read} do unplug then wait 1s then plug", (GIVEN_UP, GIVEN_UP, RIGHT)),
     Row("the link is lost, and back 100 milliseconds later", "{read} do lose_link then wait 100ms then find_link", (GIVEN_UP, GIVEN_UP, RIGHT)),
-    Row("the controller loses its registers", "{read} do power_on", (GIVEN_UP, GIVEN_UP, GIVEN_UP)),
+    Row("the controller loses its registers", "{read} do power_on", (GIVEN_UP, WRONG, GIVEN_UP)),
     Row("CR, FR, CLO and HR are slow", "on time 1us do slow_hr 500ms then slow_cr 100ms then slow_fr 100ms then slow_clo 100ms", (RIGHT, RIGHT, RIGHT)),
 )
 

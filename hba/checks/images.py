@@ -21,7 +21,7 @@ sys.path += [os.path.join(os.path.dirname(HERE), "host"), os.path.join(os.path.d
 import pace  # noqa: E402
 from suite import Skipped  # noqa: E402
 
-OUT = os.path.join(HERE, "out")
+OUT = os.environ.get("AHCI_HBA_OUT") or os.path.join(HERE, "out")  # what ./fetch has got
 GUESTS = os.path.join(HERE, "guests")
 SECTOR = 512
 VFIO_USER, PROXY = "vfio-user", "proxy"  # the ways in which QEMU has the controller

@@ -210,6 +210,9 @@ def one_after_another(room: str) -> str:
     expect([it["event"] for it in found] == ["unplug", "plug"], f"{found}")
     expect(found[0]["steps"] == {NAMES[it]: SEEN for it in GONE.steps}, f"{found[0]}")
     expect(found[1]["steps"] == {NAMES[it]: SEEN for it in "cause link errors ready start".split()} and found[1]["requests"]["again"] == 4, f"{found[1]}")
+    # what is sent to another disk is no command of the first one again
+    found, _, _ = reports(room, "other", f"{script} another", "queued happened cause stop stopped errors receive happened cause link errors ready start again answers".split())
+    expect([it["event"] for it in found] == ["unplug", "plug"] and (found[1]["requests"]["lost"], found[1]["requests"]["again"]) == (4, 0), f"{found}")
     # an event that asks for nothing ends no report
     found, _, _ = reports(room, "beside", f"{FAIL.script} then wait 1ms then send_interrupt", [*FAIL.before.split(), "nap", *whole(FAIL).split(), "again", "answers"])
     expect(len(found) == 1 and found[0]["beside"] == 1 and found[0]["requests"]["again"] == 4, f"{found}")

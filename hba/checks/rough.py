@@ -72,6 +72,20 @@ def arguments(room: str) -> str:
     return f"{len(cases)} command lines"
 
 
+def versions(room: str) -> str:
+    """A QEMU without vfio-user that is known to crash by the proxy isn't started, and of one that was not tried it is said."""
+    path = os.path.join(room, "qemu-system-old")
+    cases = [("10.0.7 (Debian 1:10.0.7+ds-0)", "QEMU 10.0 crashes with the device of --transport proxy; QEMU 7.2 has the controller by it, and QEMU 10.1 or later by vfio-user", 1),
+             ("9.2.1", "QEMU 9.2 was not tried with the device of --transport proxy; QEMU 7.2 was", 0), ("7.2.18", "", 0)]
+    for version, says, status in cases:
+        with open(path, "w", encoding="utf-8") as file:
+            file.write(f'#!/bin/sh\ntest "$1" != --version || echo "QEMU emulator version {version}"\n')
+        os.chmod(path, 0o755)
+        done = program("run", "--sectors", "8", "--", path, "-m", "512M")
+        expect(done.returncode == status and done.stderr == (f"ahci-hba: {says}\n" if says else ""), f"{version}: status {done.returncode}, {done.stderr}")
+    return f"{len(cases)} versions"
+
+
 def command_lines(room: str) -> str:
     """Each wrong option is refused by its name."""
     image = os.path.join(room, "small.img")
@@ -326,7 +340,7 @@ def large(room: str) -> str:
     return f"{blocks} MiB of the image, {memory} MiB of memory"
 
 
-CHECKS = [Check(command_lines, title="Command lines"), Check(arguments, title="Arguments of QEMU"), Check(record, title="Record of Linux"), Check(garbage, title="Garbage"), Check(wrong_peer, title="A peer of the proxy that is wrong"),
+CHECKS = [Check(command_lines, title="Command lines"), Check(arguments, title="Arguments of QEMU"), Check(versions, title="Versions of QEMU"), Check(record, title="Record of Linux"), Check(garbage, title="Garbage"), Check(wrong_peer, title="A peer of the proxy that is wrong"),
           Check(refused_memory, title="Refused memory"), Check(failed_reads, title="Reads that fail"), Check(killed_guest, title="A killed guest"), Check(unkept, title="A flush that can't be kept"),
           Check(written_at_the_end, title="An image that is written at the end"), Check(full, title="Files that can't be written"), Check(rules, title="Rules"), Check(much_written, title="Much that is written"), Check(large, title="A disk of 2 TiB"),
           Check(very_much_written, title="10 GiB that are written", is_long=True)]

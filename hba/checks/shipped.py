@@ -7,7 +7,7 @@ from typing import Any, List, Sequence
 
 from suite import Check, expect
 import surviving
-from surviving import FAILED, MANY, NONE, ONE, RESET, SHIPPED, SOME, UNFOUND, Event
+from surviving import FAILED, MANY, NONE, ONE, RESET, SHIPPED, SLOW, SOME, UNFOUND, Event
 
 UNC, IDNF, ABRT = (rf"error: \{{ {name} \}}" for name in ("UNC", "IDNF", "ABRT"))
 UNCHECKED = r"failed to read log page 10h"
@@ -56,11 +56,13 @@ EVENTS: Sequence[Event] = (
     # the link, the disk and the interface
     shipped("a_port_without_a_disk", NONE, [r"SATA link down \(SStatus 0 SControl 300\)"], instead=[("wait 20s", "wait 40*s")]),  # until Linux has looked
     shipped("unplug_in_a_full_queue", NONE, [RESET]),
+    shipped("another_disk_in_the_slot", MANY, [RESET, r"ata1\.00: serial number mismatch '00000001' != '00000002'", r"ata1\.00: disable"], is_exchanged=True),
     shipped("a_link_that_is_lost", NONE, [RESET]),
     shipped("crc_error_then_ok", NONE, [RESET, r"interface fatal error"]),
     shipped("recovered_errors", NONE, is_quiet=True),
     shipped("a_foreign_signature", NONE, [RESET], instead=[("", "on 1000th any do fatal_crc_error")]),  # a second COMRESET
-    shipped("three_resets_that_fail", NONE, [RESET, FAILED]),
+    shipped("three_resets_that_fail", NONE, [RESET, FAILED], kernels=("kernel",)),
+    shipped("three_resets_that_fail", NONE, [RESET, SLOW], kernels=("current",)),
     shipped("a_late_signature", NONE, [RESET]),
     shipped("a_port_that_stops_slowly", NONE, [RESET]),
     shipped("a_slow_start", NONE, is_quiet=True),

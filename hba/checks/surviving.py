@@ -28,7 +28,8 @@ BAD = r"(?:WARNING|BUG): |Call Trace|blocked for more than|Oops|general protecti
 # Linux's lines about the disk; numbers that differ from run to run are left out
 ABOUT = r"^(?:\[ *[\d.]+\] )?((?:ata1(?:\.00)?|ahci 0000:00:..\.0|sd \d:0:0:0|scsi \d:0:0:0|I/O error|critical \w+ error|blk_update_request|Buffer I/O error).*)$"
 RESET = r"ata1: hard resetting link"
-FAILED = r"ata1: COMRESET failed \(errno=-16\)"
+FAILED = r"ata1: COMRESET failed \(errno=-16\)"  # which the current Linux doesn't say
+SLOW = r"ata1: link is slow to respond"
 
 
 BOTH = ("kernel", "current")
@@ -49,6 +50,7 @@ class Event(NamedTuple):
     pick: str = "random"         # its option
     words: str = ""              # of the kernel's command line
     told: Sequence[Tuple[str, str]] = ()  # what else the guest has to tell
+    is_exchanged: bool = False  # the disk that is there at the end is another one, which has an image of its own here
     instead: Sequence[Tuple[str, str]] = ()  # parts of a shipped script, and what stands in their place here; "" is its end, `5*s` five seconds of an idle machine
 
 
@@ -84,7 +86,8 @@ EVENTS: Sequence[Event] = (
     Event("crc_error and the four like it", each([f"{it}_error" for it in ERRORS]), NONE, is_quiet=True),
     Event("fatal_crc_error and the four like it", each([f"fatal_{it}_error" for it in ERRORS]), NONE, [RESET, r"interface fatal error"]),
     Event("hold_signature", at("hold_signature 3s then fatal_crc_error"), NONE, [RESET]),
-    Event("lose_signature", at("lose_signature then fatal_crc_error"), NONE, [RESET, FAILED]),
+    Event("lose_signature", at("lose_signature then fatal_crc_error"), NONE, [RESET, FAILED], kernels=("kernel",)),
+    Event("lose_signature", at("lose_signature then fatal_crc_error"), NONE, [RESET, SLOW], kernels=("current",)),
     Event("wrong_log_tag", at("fail 40 then wrong_log_tag", "on 700th read"), ONE),
     Event("wrong_log_nq", at("fail 40 then wrong_log_nq", "on 700th read"), NONE, [r"failed to read log page 10h"], kernels=("kernel",)),
     # it takes the error as that of each command that is outstanding
@@ -142,9 +145,15 @@ def lines_of(guest: Guest) -> List[str]:
 def outcome(room: str, folder: str, event: Event) -> Dict[str, Any]:
     """A run of guests/survive.sh while an event's script goes on: what came of the requests, what Linux wrote, and what the judge reports."""
     path, found = os.path.join(room, "it.events"), os.path.join(room, "judged.json")
+    image = last = booting.numbered(room)
+    text = text_of(event)
+    if event.is_exchanged:
+        last = f"{image}.other"
+        with open(last, "wb") as blank:
+            blank.truncate(os.path.getsize(image))
+        text = text.replace("plug another", f"plug another {last}")
     with open(path, "w", encoding="utf-8") as file:
-        file.write(text_of(event))
-    image = booting.numbered(room)
+        file.write(text)
     options = ["--image", image, "--script", path, "--json", found, "--delay", "2000", "--pick", event.pick, *(ALONE if event.is_alone else []), *event.options]
     qboot = images.file_of("/usr/share/qemu/qboot.rom", "qemu-system-data")  # no driver for disks: Linux has the controller for itself
     guest = Guest(room, options, [*linux(room, "survive", folder=folder, more=event.words), "-bios", qboot], log=False)
@@ -158,7 +167,7 @@ def outcome(room: str, folder: str, event: Event) -> Dict[str, Any]:
     serial = guest.serial()
     told = dict(re.findall(r"CHECK (\S+) ?(.*)$", serial, re.MULTILINE))
     summed = told.get("disk", "").split()
-    return {"hangs": hangs, "status": guest.process.returncode, "told": told, "same": not summed or summed[0] == digest(contents(image)), "bad": re.findall(f"^.*(?:{BAD}).*$", serial, re.MULTILINE)[:3],
+    return {"hangs": hangs, "status": guest.process.returncode, "told": told, "same": not summed or summed[0] == digest(contents(last)), "bad": re.findall(f"^.*(?:{BAD}).*$", serial, re.MULTILINE)[:3],
             "says": lines_of(guest), "rules": judged["rules"], "recoveries": judged["recoveries"], "happened": "it never happened" not in guest.said(), "end": serial[-1500:]}
 
 

@@ -4,6 +4,7 @@ from __future__ import annotations
 import re
 from typing import Dict, List, NamedTuple, Sequence, Tuple
 
+from booting import ENDED, MEDIUM
 from harness import Guest, blank, digest, linux
 from images import pattern
 from suite import Check, Failed, expect
@@ -54,18 +55,20 @@ LACKS = [r"AAM feature is:   Unavailable", r"DSN feature is:   Unavailable", r"A
 DOUBTFUL = [r"Integrity word not set \(found 0x0000, expected 0x[0-9a-f]{2,3}a5\)", r"was completed without error\."]
 
 # hdparm wants sense data of the kind with descriptors, and Linux has those of the fixed format: bytes 8 and 9 are the disk's error and status
-ABORTED = r"Corrupting sector 1000 \(WRITE_LONG\): SG_IO: bad/missing sense data, sb\[\]:  70 00 0b 00 00 00 00 0a 04 41( 00)+"
+UNREAD = r"reading sector 1000: SG_IO: bad/missing sense data, sb\[\]:  70 00 03 00 00 00 00 0a 40 41 00 00 11 04 00 00 00 e8( 00)+"
 NOT_FOUND = rf"reading sector {SECTORS}: SG_IO: bad/missing sense data, sb\[\]:  70 00 05 00 00 00 00 0a 10 41 00 00 21( 00)+"
+NO_READ = r"dd: /dev/sda: Input/output error"
 NO_CACHE, NO_CONVEYANCE = r"Write cache is:   Unavailable", r"Conveyance Self-test functions not supported"
-OF_A_RUN = {"bad": [ABORTED], "beyond": [NOT_FOUND], "plain_settings": [NO_CACHE], "plain_set_settings": [NO_CACHE], "plain_end": [NO_CACHE],
+OF_A_RUN = {"sector_bad": [UNREAD], "sector_flagged": [UNREAD], "read_bad": [NO_READ], "beyond": [NOT_FOUND], "plain_settings": [NO_CACHE], "plain_set_settings": [NO_CACHE], "plain_end": [NO_CACHE],
             "plain_cache": [r"SG_IO: bad/missing sense data, sb\[\]:  70 00 0b 00 00 00 00 0a 04 41( 00)+", r"write-caching = not supported"],
             "plain_conveyance": [NO_CONVEYANCE, r"Command \"Execute SMART Conveyance .*\" failed: scsi error aborted command"]}
-STATUS = {"skips": 2, "plain_conveyance": 4}  # smartctl(8), "-n standby" and "EXIT STATUS": the disk has no such test
+STATUS = {"read_bad": 1, "skips": 2, "plain_conveyance": 4}  # smartctl(8), "-n standby" and "EXIT STATUS": the disk has no such test
 
 # what Linux writes meanwhile
-KERNEL = {"cache_0": [r"sd 0:0:0:0: \[sda\] Write cache: disabled, .*"], "cache_1": [r"sd 0:0:0:0: \[sda\] Write cache: enabled, .*"],
+KERNEL = {"read_bad": [*ENDED, *MEDIUM, r"ata1\.00: configured for UDMA/100", r"res 41/40:00:e8:03:00/00:00:00:00:00/00 Emask 0x409 \(media error\) <F>"], "cache_0": [r"sd 0:0:0:0: \[sda\] Write cache: disabled, .*"], "cache_1": [r"sd 0:0:0:0: \[sda\] Write cache: enabled, .*"],
           "awake": [r"ata1\.00: exception Emask 0x0 SAct 0x[0-9a-f]+ SErr 0x0 action 0x6", r"ata1\.00: waking up from sleep", r"ata1: hard resetting link", r"ata1: SATA link up 3\.0 Gbps \(SStatus 123 SControl 300\)",
                     r"ata1\.00: configured for UDMA/100", r"ata1: EH complete"]}
+BUSY = [r"hrtimer: interrupt took \d+ ns", r"clocksource: .*", r"sched: RT throttling activated"]  # the machine is
 FILE_SYSTEMS = [r"init \(1\): drop_caches: 3", r"(EXT4-fs|XFS) \(sda\): (mounted filesystem|unmounting|Unmounting|Mounting|Ending clean mount).*", r"SGI XFS with .*"]
 
 NAMED = [rf"Device Model:     {MODEL}", rf"Serial Number:    {SERIAL}", rf"Firmware Version: {FIRMWARE}", rf"User Capacity:    {BYTES:,} bytes \[536 MB\]", r"Sector Size:      512 bytes logical/physical",
@@ -82,7 +85,7 @@ def features(cache: str = "*", ahead: str = "*", apm: str = "") -> List[str]:
     """What hdparm -I prints of a disk by these settings; * is enabled."""
     has = [("*", "SMART feature set"), ("*", "Power Management feature set"), (cache, "Write cache"), (ahead, "Look-ahead"), ("*", "WRITE_BUFFER command"), ("*", "READ_BUFFER command"),
            ("*" if apm else "", "Advanced Power Management feature set"), ("*", "48-bit Address feature set"), ("*", "Mandatory FLUSH_CACHE"), ("*", "FLUSH_CACHE_EXT"), ("*", "SMART error logging"),
-           ("*", "SMART self-test"), ("*", "General Purpose Logging feature set"), ("*", "{READ,WRITE}_DMA_EXT_GPL commands"), ("*", "Gen1 signaling speed (1.5Gb/s)"), ("*", "Gen2 signaling speed (3.0Gb/s)"),
+           ("*", "SMART self-test"), ("*", "General Purpose Logging feature set"), ("*", "WRITE_UNCORRECTABLE_EXT command"), ("*", "{READ,WRITE}_DMA_EXT_GPL commands"), ("*", "Gen1 signaling speed (1.5Gb/s)"), ("*", "Gen2 signaling speed (3.0Gb/s)"),
            ("*", "Native Command Queueing (NCQ)"), ("*", "Phy event counters"), ("*", "64-bit World wide name"), ("*", "WRITE_{DMA|MULTIPLE}_FUA_EXT"), ("*", "WRITE BUFFER DMA command"), ("*", "READ BUFFER DMA command"), ("*", "Data Set Management TRIM supported (limit 8 blocks)")]
     return [rf"Model Number:       {MODEL}", rf"Serial Number:      {SERIAL}", rf"Firmware Revision:  {FIRMWARE}", rf"LBA    user addressable sectors: +{SECTORS}", rf"LBA48  user addressable sectors: +{SECTORS}",
             r"R/W multiple sector transfer: Max = 16\tCurrent = \?", rf"Logical Unit WWN Device Identifier: {NAME:016x}",
@@ -99,7 +102,9 @@ SAYS: Sequence[Tuple[str, List[str]]] = (
     ("cache_0", [r"write-caching =  0 \(off\)"]), ("cache_identify_0", features(cache="")), ("cache_1", [r"write-caching =  1 \(on\)"]), ("cache_identify_1", features()),
     ("ahead_0", [r"look-ahead    =  0 \(off\)"]), ("apm_127", [r"APM_level\t= 127"]), ("set_identify", features(ahead="", apm="127")), ("ahead_1", [r"look-ahead    =  1 \(on\)"]), ("apm_255", [r"APM_level\t= off"]),
     ("is_standby", [r"drive state is:  standby"]), ("skips", [r"Device is in STANDBY mode, exit\(2\)"]), ("woken", [r"1\+0 records in"]), ("is_woken", [r"drive state is:  active/idle"]),
-    ("awake", [r"1\+0 records in"]), ("is_awake", [r"drive state is:  active/idle"]), ("timer", [r"setting standby to 12 \(1 minute\)"]), ("bad", [ABORTED]), ("beyond", [NOT_FOUND]),
+    ("awake", [r"1\+0 records in"]), ("is_awake", [r"drive state is:  active/idle"]), ("timer", [r"setting standby to 12 \(1 minute\)"]), ("bad", [r"Corrupting sector 1000 \(WRITE_UNC_EXT as pseudo\): succeeded"]), ("sector_bad", [UNREAD]),
+    ("sector_next", [r"reading sector 1001: succeeded"]), ("read_bad", [NO_READ]), ("repaired", [r"re-writing sector 1000: succeeded"]), ("read_again", [r"1\+0 records in"]),
+    ("flagged", [r"Corrupting sector 1000 \(WRITE_UNC_EXT as flagged\): succeeded"]), ("sector_flagged", [UNREAD]), ("beyond", [NOT_FOUND]),
     ("zeroed", [r"re-writing sector 1000: succeeded"]), ("phy", [r"Command failed and ICRC error bit set in Error register: 0", r"Signature device-to-host register FISes due to COMRESET: \d+"]),
     ("discard", [rf"0 512 0 1 {BYTES} {FIRMWARE[4:]} {re.escape(MODEL.replace(' ', chr(92) + 'x20'))}"]),
     ("blkdiscard", [rf"/dev/sda: Discarded {BYTES} bytes from the offset 0"]), ("blkdiscard_part", [r"/dev/sda: Discarded 4194304 bytes from the offset 1048576"]),
@@ -130,7 +135,7 @@ def runs_of(text: str) -> Dict[str, Run]:
 def complaints(name: str, run: Run) -> List[str]:
     """What a tool, or Linux meanwhile, says against the disk. A disk that has none of DOUBTFUL is as right."""
     usual = re.compile("|".join([*GOOD, *LACKS, *DOUBTFUL, *OF_A_RUN.get(name, [])]))
-    kernel = re.compile("|".join([*FILE_SYSTEMS, *KERNEL.get(name, [])]))
+    kernel = re.compile("|".join([*FILE_SYSTEMS, *BUSY, *KERNEL.get(name, [])]))
     wrong = [line for line in run.lines if COMPLAINT.search(line) and not usual.fullmatch(line.lstrip("*\t ")) and not usual.fullmatch(line)]
     wrong += [line for line in run.kernel if not kernel.fullmatch(line)]
     return [f"{name}: {it}" for it in [*wrong, *([f"status {run.status}"] if run.status != STATUS.get(name, 0) else [])]]
@@ -180,8 +185,8 @@ def pages_right(runs: Dict[str, Run]) -> None:
 
 
 def sectors_right(runs: Dict[str, Run]) -> None:
-    """A sector as hdparm reads it: it stays when WRITE LONG is aborted."""
-    wanted = [(name, DATA[:512] if name != "sector_zeroed" else bytes(512)) for name in ("sector", "sector_again", "sector_zeroed")]
+    """A sector as hdparm reads it: one that was made bad is zeros once hdparm has written it."""
+    wanted = [(name, DATA[:512] if name == "sector" else bytes(512)) for name in ("sector", "sector_next", "sector_again", "sector_zeroed")]
     for name, content in wanted:
         told = b"".join(it.to_bytes(2, "big") for it in words_of(runs[name].lines, ""))
         swapped = b"".join(told[it:it + 2][::-1] for it in range(0, 512, 2))
@@ -208,7 +213,7 @@ def performed(room: str, options: Sequence[str], sectors: int, says: Sequence[Tu
     """Runs guests/tools.sh on a disk: no tool complains, and each says what it has to."""
     guest = Guest(room, ["--image", blank(room, sectors), *options], linux(room, "tools", DATA, more=more))
     guest.end(600)
-    guest.log_is_usual()
+    guest.log_is_usual([r"fail \d+ with 40 at sector 1000, which is marked uncorrectable", r"the queue's journal of \d+ entries was handed out"])
     guest.told()
     runs = runs_of(guest.serial())
     absent = [name for name, _ in says if name not in runs]

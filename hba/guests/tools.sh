@@ -77,7 +77,14 @@ run timer hdparm -S 12 /dev/sda
 dd if=/data of=/dev/sda bs=512 count=1 seek=1000 oflag=direct 2> /dev/null
 run sector hdparm --read-sector 1000 /dev/sda
 run bad hdparm --yes-i-know-what-i-am-doing --make-bad-sector 1000 /dev/sda
+run sector_bad hdparm --read-sector 1000 /dev/sda
+run sector_next hdparm --read-sector 1001 /dev/sda
+run read_bad dd if=/dev/sda of=/tmp/read bs=512 skip=1000 count=1
+run repaired hdparm --yes-i-know-what-i-am-doing --repair-sector 1000 /dev/sda
 run sector_again hdparm --read-sector 1000 /dev/sda
+run read_again dd if=/dev/sda of=/tmp/read bs=512 skip=1000 count=1
+run flagged hdparm --yes-i-know-what-i-am-doing --make-bad-sector f1000 /dev/sda
+run sector_flagged hdparm --read-sector 1000 /dev/sda
 run beyond hdparm --read-sector "$(cat /sys/block/sda/size)" /dev/sda
 run zeroed hdparm --yes-i-know-what-i-am-doing --write-sector 1000 /dev/sda
 run sector_zeroed hdparm --read-sector 1000 /dev/sda
