@@ -12,8 +12,8 @@ With --raw the script is another one, in which `raw` lines stand too: windows of
 what the port ignores, and now and then one that breaks a rule.
 
 With --large it is another one again: an eighth of the scripts has a disk of up to 131,072 sectors, and there a few commands have 129
-sectors and more, 65,536 at most, so many that all scripts together take little longer; and in all of them commands end with the last sector,
-or pass it by one, more often.
+sectors and more, 65,536 at most, so many that all scripts together take little longer (seed 10 has four of 65,536); and in all of them commands end
+with the last sector, or pass it by one, more often.
 """
 import random
 import signal
@@ -21,6 +21,7 @@ import struct
 import sys
 
 FREE, ISSUED, ACCEPTED, FAILED, DONE, HELD = "free", "issued", "accepted", "failed", "done", "held"
+LARGEST = 10  # a seed whose script has commands of 65,536 sectors, so that they come among the first 20
 REGISTERS = "0 4 c 10 100 104 108 10c 110 114 118 120 124 128 12c 130 134 138".split()
 
 
@@ -103,6 +104,8 @@ class Writer:
             self.port.sectors, self.left = self.up_to(256, 131_072), 8192
             if self.below(8) == 0:
                 self.port.sectors = self.left = self.up_to(8193, 131_072)
+        if large and seed == LARGEST:
+            self.port.sectors, self.left = 65_536 + self.below(65_537), 4 * 65_536
 
     def below(self, end):
         return int(self.random() * end)

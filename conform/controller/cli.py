@@ -4,7 +4,6 @@ import functools
 import importlib.util
 import json
 import os
-import re
 import sys
 import time
 from typing import Callable, Iterator, List, Optional
@@ -12,6 +11,7 @@ from typing import Callable, Iterator, List, Optional
 from judge.adapter import EmulatorFault
 from judge.cli import Stopped, Words, Wrong, seeds_in
 from judge.known import ListFault
+from judge.lists import Listed, list_for
 
 from . import kept, play, report
 from .adapter import Controller
@@ -20,7 +20,7 @@ from .draft import Draft
 from .generate import LEVELS, program
 from .known import NOTHING, Known, read_known
 from .library import needed
-from .qemu import PROGRAM, Qemu, version_of
+from .qemu import PROGRAM, Qemu
 from .text import TextFault, program_of
 from .vfio import Vfio
 
@@ -136,19 +136,16 @@ def class_of(path: str, name: str) -> Callable[[], Controller]:
     return made
 
 
-def newest_list(qemu: str) -> str:
-    """The list of a QEMU: that of its version, or of the next older one that has a list."""
-    lists = sorted((tuple(map(int, name[5:-5].split("."))), name) for name in os.listdir(FOLDER) if re.fullmatch(r"qemu-[0-9]+\.[0-9]+\.json", name))
-    there = version_of(qemu)
-    return os.path.join(FOLDER, next((name for version, name in reversed(lists) if version <= there), lists[0][1]))
-
-
-def known_path(asked: argparse.Namespace) -> str:
-    return asked.known or (newest_list(asked.qemu or PROGRAM) if asked.emulator == "qemu" and not asked.recorded else "none")
+def known_list(asked: argparse.Namespace) -> Listed:
+    if asked.known or asked.emulator != "qemu" or asked.recorded:
+        return Listed(asked.known or "none", "")
+    return list_for(FOLDER, asked.qemu or PROGRAM)
 
 
 def known_for(asked: argparse.Namespace) -> Known:
-    path = known_path(asked)
+    path, notice = known_list(asked)
+    if notice:
+        print(f"ahci_conform: {notice}", file=sys.stderr)
     known = NOTHING if path == "none" else read_known(path)
     base = asked.base or ("none" if asked.emulator == "library" else BASE)
     known = known if base == "none" else known.over(read_known(base))
@@ -272,7 +269,7 @@ def chosen(asked: argparse.Namespace) -> int:
         return 1 if lines and " has ended " in lines[-1] else 0
     if asked.shown is not None:
         from .shown import check_list
-        return check_list(asked.shown or known_path(asked)[:-5], known_for(asked), emulator_of(asked))
+        return check_list(asked.shown or known_list(asked).path[:-5], known_for(asked), emulator_of(asked))
     if asked.smallest:
         from .smallest import write_smallest
         return write_smallest(asked.smallest, known_for(asked), emulator_of(asked), programs_in(asked))

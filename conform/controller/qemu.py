@@ -2,7 +2,6 @@
 import json
 import mmap
 import os
-import re
 import shutil
 import socket
 import subprocess
@@ -25,16 +24,6 @@ RELEASED_SECONDS = 0.3
 EQUAL_LOOKS = 4  # with nothing changed, while a command is outstanding: it is taken that nothing will change
 STARTERS = (layout.PX_CI, layout.PX_SACT, layout.PX_CMD, layout.PX_SCTL, layout.GHC)  # registers whose write may begin or end a request
 Snap = Tuple[bytes, bytes, int]
-
-
-def version_of(program: str) -> Tuple[int, ...]:
-    """Major and minor version of a QEMU; nothing if it can't be told."""
-    try:
-        said = subprocess.run([program, "--version"], stdout=subprocess.PIPE, stderr=subprocess.DEVNULL, timeout=SECONDS, check=False).stdout.decode("utf-8", "replace")
-    except (OSError, subprocess.SubprocessError):
-        return ()
-    found = re.search(r"version ([0-9]+)\.([0-9]+)", said)
-    return (int(found[1]), int(found[2])) if found else ()
 
 
 def blkdebug(path: str) -> str:

@@ -17,11 +17,11 @@ from .adapter import Adapter, EmulatorFault
 from .draft import Draft
 from .judge import Judged, Way, judge
 from .known import NOTHING, Known, ListFault, read_known
-from .qemu import Qemu
+from .lists import Listed, list_for
+from .qemu import PROGRAM, Qemu
 
 TOP = os.path.dirname(os.path.dirname(os.path.dirname(os.path.abspath(__file__))))
 CONFORM = os.path.join(TOP, "conform")
-LISTS = {"qemu": os.path.join(CONFORM, "qemu-7.2.json")}
 BASE = os.path.join(CONFORM, "any_port.json")
 ABOUT = """\
 Plays scripts on an emulator's AHCI port as a driver would, and compares the port with the reference model after each line:
@@ -146,8 +146,10 @@ def adapter_of(asked: argparse.Namespace) -> Callable[[], Adapter]:
 
 
 def known_for(asked: argparse.Namespace) -> Known:
-    path = asked.known or LISTS.get(asked.emulator)
-    known = NOTHING if not path or path == "none" else read_known(path)
+    listed = Listed(asked.known or "none", "") if asked.known or asked.emulator != "qemu" else list_for(CONFORM, asked.qemu or PROGRAM)
+    if listed.notice:
+        print(f"ahci_conform: {listed.notice}", file=sys.stderr)
+    known = NOTHING if listed.path == "none" else read_known(listed.path)
     base = asked.base or ("none" if asked.shown or asked.without else BASE)
     known = known if base == "none" else known.over(read_known(base))
     if asked.without and asked.without not in [entry.name for entry in known.entries]:

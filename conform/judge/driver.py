@@ -14,7 +14,13 @@ ALL = 0xFFFFFFFF
 S64A = 0x80000000  # of CAP
 OWN_IMAGE = "the tool's own image of the disk"  # a difference here is a fault of the tool
 TURNS_A_SECOND = 200  # looks that a second of patience has at least
+HEADER = 32  # bytes of a command header
 LOOKED_AT = 1 << 16  # bytes of a write whose memory is looked at again when it is done
+
+
+def named(window: Window) -> str:
+    """Whose window it is."""
+    return f"tag {window.tag}" if window.tag != PLAIN else "slot 0"
 
 
 def first_apart(expected: bytes, got: bytes) -> int:
@@ -144,9 +150,16 @@ class Driver:
         windows = [self.windows[tag] for tag in tags]
         texts = [self.image.effect(window) for window in windows]
         self.texts.update(zip(tags, texts))
-        for window, text in zip(windows, texts):
+        headers = self.adapter.read_places([(layout.header_place(tag), HEADER) for tag in tags])
+        for window, text, header in zip(windows, texts, headers):
+            self.compare_header(window, header)
             self.compare_memory(window, text)
         self.compare_disk(tags)
+
+    def compare_header(self, window: Window, got: bytes) -> None:
+        """Of a command header the HBA writes PRDBC alone."""
+        at, (before, after) = layout.header_place(window.tag if window.tag != PLAIN else 0), (it[:4] + bytes(4) + it[8:] for it in (window.header, got))
+        self.tell(f"command header of {named(window)}", before, after, f"at {at:x}h; PRDBC aside")
 
     def compare_memory(self, window: Window, text: bytes) -> bytes:
         """A read's data should have come, and nothing else is changed. Answers what stands in the pieces."""
@@ -161,9 +174,8 @@ class Driver:
         self.tell("command table", window.table, got.take(window.table_at, len(window.table)), f"at {window.table_at:x}h")
         got.put(window.table_at, window.table)
         got.scatter(window.used, expected.gather(window.used))
-        who = f"tag {window.tag}" if window.tag != PLAIN else "slot 0"
         for (address, _), before, after in zip(places, expected.blocks, got.blocks):
-            self.tell(f"memory beside the data of {who}", bytes(before), bytes(after), f"from {address:x}h on (laid {window.way})")
+            self.tell(f"memory beside the data of {named(window)}", bytes(before), bytes(after), f"from {address:x}h on (laid {window.way})")
         return data
 
     # the disk
@@ -239,14 +251,16 @@ class Driver:
         """A command by slot 0, whose own header is put aside meanwhile. Answers its data."""
         assert step.sent
         window, place = self.layer.unqueued(step.line, step.sent), layout.header_place(0)
-        aside = self.adapter.read_memory(place, 32)
+        aside = self.adapter.read_memory(place, HEADER)
         self.adapter.write_places([*memory_of(window).parts(), (place, window.header)])
         self.write(layout.PX_CI, 1)
         self.wait(lambda: any(self.area()[it.offset] for it in layout.FIS_PLACES if it.member in ("pio_setup", "d2h_register")))
         self.wait(lambda: bool(self.read(layout.PX_TFD) & ERR) or not self.read(layout.PX_CI) & 1)
         self.wait(lambda: not self.read(layout.PX_TFD) & BUSY)
         self.adapter.settle()
-        self.tell("PRDBC", window.header[7:3:-1], self.adapter.read_memory(place + 4, 4)[::-1], f"slot 0 (laid {window.way})")
+        header = self.adapter.read_memory(place, HEADER)
+        self.tell("PRDBC", window.header[7:3:-1], header[7:3:-1], f"slot 0 (laid {window.way})")
+        self.compare_header(window, header)
         data = self.compare_memory(window, window.text)
         self.adapter.write_memory(place, aside)
         return data

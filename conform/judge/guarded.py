@@ -5,6 +5,8 @@ from . import layout
 from .adapter import Adapter, EmulatorFault, Place
 
 
+METHODS = [name for name, it in vars(Adapter).items() if callable(it) and not name.startswith("_")]
+
 
 def fault_of(what: str, why: BaseException) -> EmulatorFault:
     """An exception of somebody's code, in one line."""
@@ -36,6 +38,9 @@ class Guarded(Adapter):
             self.adapter = make()
         except (Exception, SystemExit) as why:
             raise why if isinstance(why, EmulatorFault) else fault_of("constructor", why) from why
+        for name in METHODS:
+            if not callable(getattr(self.adapter, name)):
+                raise EmulatorFault(f"the adapter's attribute `{name}` is {type(getattr(self.adapter, name)).__name__} and hides its method of that name")
         self.title, self.patience, self.quiet = str(self.adapter.title), float(self.adapter.patience), float(self.adapter.quiet)
         self.guest_memory = memory_of(self.adapter.guest_memory)
         self.most_entries = self.checked("`most_entries`", self.adapter.most_entries, int)

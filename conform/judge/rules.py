@@ -1,6 +1,6 @@
 """Which rule a difference breaks: one of the standards, or a choice that they leave to the model."""
 from fnmatch import fnmatchcase
-from typing import List, NamedTuple, Tuple
+from typing import Callable, List, NamedTuple, Tuple
 
 from .differences import Difference
 from .model import Step
@@ -17,12 +17,33 @@ class Rule(NamedTuple):
     bits: str = ""  # hexadecimal bytes; none: all
     lines: Tuple[str, ...] = ANY  # first words of lines
     answer: str = "*"
+    is_so: Callable[[Difference], bool] = lambda it: True  # and for which values
 
     def fits(self, step: Step, it: Difference) -> bool:
         if not fnmatchcase(it.place, self.place) or self.lines and step.words[0] not in self.lines or not fnmatchcase(step.answer, self.answer):
             return False
         bits = bytes.fromhex(self.bits)
-        return not bits or len(bits) == len(it.mask) and not any(a & ~b for a, b in zip(it.mask, bits))
+        return self.is_so(it) and (not bits or len(bits) == len(it.mask) and not any(a & ~b for a, b in zip(it.mask, bits)))
+
+
+def word(data: bytes, at: int) -> int:
+    """A word of a FIS."""
+    return int.from_bytes(data[at : at + 4], "little")
+
+
+def names_some(it: Difference) -> bool:
+    """SActive of a Set Device Bits FIS that came alone or as the last of several: it names some of the tags that complete, and no other."""
+    return word(it.got, 4) != 0 and not word(it.got, 4) & ~word(it.expected, 4)
+
+
+def is_last_part(it: Difference) -> bool:
+    """A DMA Setup FIS that ends where the command's data do, whether others came before it or not."""
+    return word(it.got, 20) != 0 and word(it.got, 16) + word(it.got, 20) == word(it.expected, 16) + word(it.expected, 20)
+
+
+def counts_all(it: Difference) -> bool:
+    """PRDBC is the number of bytes of a page."""
+    return int.from_bytes(it.got, "big") == 512
 
 
 FIS = "Serial ATA, \"{}\"; AHCI 1.3.1, section 4.2.1"
@@ -59,14 +80,17 @@ RULES: List[Rule] = [
     Rule("D2H Register FIS", "model", f"{D2H} (LBA, device and count of an acceptance)", "00000000ffffffffffffff00ffff000000000000", ("accept",), "accepted *"),
     Rule("D2H Register FIS", "standard", D2H),
     Rule("Set Device Bits FIS", "model", "ACS-3, status field, bit 4", "0000100000000000"),
-    Rule("Set Device Bits FIS", "model", f"{SDB} (one FIS for several tags)", "00000000ffffffff", ("serve",), "completed * *"),
+    Rule("Set Device Bits FIS", "model", f"{SDB} (one FIS for several tags)", "00000000ffffffff", ("serve",), "completed * *", names_some),
     Rule("Set Device Bits FIS", "standard", SDB),
-    Rule("DMA Setup FIS", "model", f"{DMA} (A, I, and one for the whole command)", "00c0000000000000000000000000000000000000ffffffffffffffff"),
+    Rule("DMA Setup FIS", "model", f"{DMA} (A and I)", "00c0" + 26 * "00"),
+    Rule("DMA Setup FIS", "model", f"{DMA} (A, I, and one for the whole command)", "00c0" + 14 * "00" + 8 * "ff" + 4 * "00", is_so=is_last_part),
     Rule("DMA Setup FIS", "standard", DMA),
     Rule("PIO Setup FIS", "model", "ACS-3, status field, bit 4", "0000100000000000000000000000001000000000"),
     Rule("PIO Setup FIS", "standard", PIO),
     Rule("received FIS area, elsewhere", "standard", "AHCI 1.3.1, section 4.2.1"),
-    Rule("PRDBC", "model", "AHCI 1.3.1, section 4.2.2: the standard counts the bytes, and the model's port doesn't"),
+    Rule("PRDBC", "model", "AHCI 1.3.1, section 4.2.2: the standard counts the bytes, and the model's port doesn't", is_so=counts_all),
+    Rule("PRDBC", "standard", "AHCI 1.3.1, section 4.2.2"),
+    Rule("command header *", "standard", "AHCI 1.3.1, section 4.2.2 (the HBA writes PRDBC alone)"),
     Rule("command table", "standard", "AHCI 1.3.1, section 4.2.3"),
     Rule("data of tag *", "standard", "AHCI 1.3.1, section 4.2.3"),
     Rule("memory beside *", "standard", "AHCI 1.3.1, section 4.2.3"),

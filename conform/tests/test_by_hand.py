@@ -1,4 +1,4 @@
-"""Twelve programs by hand, with what AHCI 1.3.1, Serial ATA and ACS-3 say of the registers and of the received FIS area at their end."""
+"""Fifteen programs by hand, with what AHCI 1.3.1, Serial ATA and ACS-3 say of the registers and of the received FIS area at their end."""
 import unittest
 from typing import Dict, NamedTuple, Tuple
 
@@ -77,6 +77,15 @@ CASES: Tuple[Case, ...] = (
     Case("a slot that is issued again while its queued command is outstanding: no bit is left at the end (5.5.1 forbids it)",
          STARTED + "hold 5 read\n" + queued(5) + "write PxCI 00000020\ngo 5\n",
          True, {"PxIS": 0x8, "PxTFD": 0x40, "PxCI": 0, "PxSACT": 0}, {"D2H": "34004000", "SDB": "a140400020000000"}),
+    Case("an entry with I whose bytes have all been read sets DPS, whatever comes behind it (3.3.5, DPS; 4.2.3.3, I)",
+         STARTED + f"command slot 0 table 01001000 {READ}01 data 01020000:256:I 01021000:256\nwrite PxCI 00000001\n",
+         True, {"PxIS": 0x21, "PxTFD": 0x40, "PxCI": 0}, {"D2H": "34404000"}),
+    Case("an entry with I whose bytes have all been written sets it too (3.3.5, DPS; 4.2.3.3, I)",
+         STARTED + "command slot 0 table 01001000 fis 2780ca00000000400000000001 flags 0045 data 01020000:512:I\nwrite PxCI 00000001\n",
+         True, {"PxIS": 0x21, "PxTFD": 0x40, "PxCI": 0}, {"D2H": "34404000"}),
+    Case("data that end before the last byte of the entry with I don't set it (3.3.5, DPS; 4.2.3.3, I)",
+         STARTED + f"command slot 0 table 01001000 {READ}01 data 01020000:256 01021000:258:I\nwrite PxCI 00000001\n",
+         True, {"PxIS": 0x1, "PxTFD": 0x40, "PxCI": 0}, {"D2H": "34404000"}),
 )
 
 

@@ -11,7 +11,7 @@ from judge.draft import Draft
 from judge.judge import Judged, judge
 from judge.known import NOTHING, Known, known_of, read_known
 from judge.model import Step
-from judge.rules import RULES, rule_of
+from judge.rules import RULES, counts_all, is_last_part, names_some, rule_of
 from stand_in.faults import FAULTS, named
 from stand_in.port import StandIn
 from tests.common import stored, text_of
@@ -122,11 +122,30 @@ class Rules(unittest.TestCase):
         ):
             self.assertEqual(rule_of(step(line, answer), difference).choice, choice, (line, difference))
 
+    def test_a_value_that_no_device_may_give_breaks_the_standard(self) -> None:
+        def setup(offset: int, count: int) -> bytes:
+            return bytes(16) + offset.to_bytes(4, "little") + count.to_bytes(4, "little") + bytes(4)
+
+        def bits(tags: int) -> bytes:
+            return bytes(4) + tags.to_bytes(4, "little")
+
+        for place, expected, got, choice in (
+            ("PRDBC", bytes(4), bytes([0, 0, 2, 0]), "model"), ("PRDBC", bytes(4), bytes([0, 0, 1, 0xFF]), "standard"),
+            ("DMA Setup FIS", setup(0, 0x10000), setup(0xC000, 0x4000), "model"), ("DMA Setup FIS", setup(0, 0x10000), setup(0, 0), "standard"),
+            ("DMA Setup FIS", setup(0, 0x30000), setup(0, 0xFFFF), "standard"), ("DMA Setup FIS", setup(0, 512), setup(512, 512), "standard"),
+            ("Set Device Bits FIS", bits(0x30), bits(0x20), "model"), ("Set Device Bits FIS", bits(0x30), bits(0x31), "standard"),
+            ("Set Device Bits FIS", bits(0x30), bits(0), "standard"), ("command header of tag 3", bytes(32), bytes(12) + b"\1" + bytes(19), "standard"),
+        ):
+            self.assertEqual(rule_of(step("serve 4 5", "completed 9 10"), Difference(place, expected, got, differs(expected, got))).choice, choice, (place, got))
+
     def test_each_rule_is_reached(self) -> None:
         """No rule comes after another that takes all of its differences."""
+        values = {names_some: (b"\0\0\0\0\3\0\0\0", b"\0\0\0\0\1\0\0\0"), counts_all: (bytes(4), b"\0\0\2\0"),
+                  is_last_part: (bytes(20) + b"\0\4" + bytes(6), bytes(16) + b"\0\2\0\0\0\2" + bytes(6))}
         for at, rule in enumerate(RULES):
             bits = bytes.fromhex(rule.bits) or b"\xff" * 4
-            difference = Difference(rule.place.replace("*", "9"), bytes(len(bits)), bits, bits)
+            expected, got = values.get(rule.is_so, (bytes(len(bits)), bits))
+            difference = Difference(rule.place.replace("*", "9"), expected, got, differs(expected, got))
             line = step(f"{rule.lines[0] if rule.lines else 'show'} 0", rule.answer.replace("*", "9"))
             self.assertIs(rule_of(line, difference), rule, f"rule {at}: {rule.place}")
 

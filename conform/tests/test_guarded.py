@@ -48,6 +48,13 @@ class Faults(unittest.TestCase):
         made = type("It", (Broken,), {"start": raises(OSError("first")), "stop": raises(OSError("second"))})
         self.assertIn("the adapter's start has ended with OSError: first", self.fault(made))
 
+    def test_an_attribute_that_hides_a_method_is_told(self) -> None:
+        def begun(self: Any) -> None:
+            StandIn.__init__(self)
+            self.sectors = 64
+
+        self.assertIn("the adapter's attribute `sectors` is int and hides its method of that name", self.fault(broken("__init__", begun)))
+
     def test_answers_of_another_type_or_length_are_told(self) -> None:
         for name, answer, told in (
             ("read_register", None, "the adapter's read_register answers NoneType and not int"),

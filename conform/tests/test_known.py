@@ -1,11 +1,13 @@
 """The list of known differences: read strictly, and matched bit by bit."""
 import json
 import os
+import tempfile
 import unittest
 from typing import Any, Dict
 
 from judge.differences import Difference, differs
 from judge.known import ListFault, known_of, read_known
+from judge.lists import list_for
 from judge.model import Step
 from controller import page as controller_page
 from judge.page import anchor, page_of
@@ -25,6 +27,23 @@ def step(line: str, answer: str) -> Step:
 def word(place: str, expected: int, got: int) -> Difference:
     before, after = expected.to_bytes(4, "big"), got.to_bytes(4, "big")
     return Difference(place, before, after, differs(before, after))
+
+
+class Versions(unittest.TestCase):
+    def test_a_qemu_has_the_list_of_its_version_or_of_the_next_older_one_and_that_is_said(self) -> None:
+        with tempfile.TemporaryDirectory() as room:
+            for name in ("qemu-7.2.json", "qemu-11.1.json", "any_port.json"):
+                with open(f"{room}/{name}", "w", encoding="utf-8"):
+                    pass
+            for version, name, says in (("7.2.22 (Debian)", "qemu-7.2.json", ""), ("10.0.2", "qemu-7.2.json", "this is QEMU 10.0, and the list of known differences is that of QEMU 7.2"),
+                                        ("11.1.3", "qemu-11.1.json", ""), ("12.0", "qemu-11.1.json", "is that of QEMU 11.1"), ("6.1", "qemu-7.2.json", "this is QEMU 6.1")):
+                with open(f"{room}/qemu", "w", encoding="utf-8") as file:
+                    file.write(f"#!/bin/sh\necho \"QEMU emulator version {version}\"\n")
+                os.chmod(f"{room}/qemu", 0o755)
+                listed = list_for(room, f"{room}/qemu")
+                self.assertEqual(os.path.basename(listed.path), name, version)
+                self.assertTrue(says in listed.notice if says else not listed.notice, listed.notice)
+            self.assertEqual(list_for(room, f"{room}/none"), (f"{room}/qemu-7.2.json", ""))
 
 
 class Reading(unittest.TestCase):

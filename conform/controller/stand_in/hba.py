@@ -7,7 +7,7 @@ from ..adapter import Died
 from ..ata import Asked, asked
 from ..layout import BSY, DRQ, ERR, FRE, IS, PX_CI, PX_CLB, PX_CLBU, PX_CMD, PX_IE, PX_IS, PX_SACT, PX_SSTS, PX_TFD, ST
 from .disk import ABRT, BAD_STATUS, GOOD, MODES, POWER, UNC, Failure
-from .registers import DHRS, HBFS, IFS, OFS, PSS, SDBS, TFES, Bad, Registers, Task
+from .registers import DHRS, DPS, HBFS, IFS, OFS, PSS, SDBS, TFES, Bad, Registers, Task
 
 
 MOST_MOVES = 2000  # of one access
@@ -64,14 +64,16 @@ class Hba(Registers):
         flags = head[0] | head[1] << 8
         wants = asked(fis)
         runs: List[Tuple[int, int]] = []
+        interrupts: List[bool] = []
         left = layout.SECTOR * wants.count if wants.moves else layout.SECTOR if wants.kind == "page" else 0
         for number in range(head[2] | head[3] << 8 if left else 0):
             entry = self.get(table + 0x80 + 16 * number, 16)
             runs.append((int.from_bytes(entry[:8], "little") & ~1, self.length(entry)))
+            interrupts.append(bool(entry[15] & 0x80))
             left -= runs[-1][1]
             if left <= 0:
                 break
-        return Task(slot, header, fis, flags, runs, wants)
+        return Task(slot, header, fis, flags, runs, interrupts, wants)
 
     def length(self, entry: bytes) -> int:
         return (int.from_bytes(entry[12:16], "little") & 0x3FFFFF | 1) + 1
@@ -167,6 +169,7 @@ class Hba(Registers):
             return
         if it.write:
             self.drive.write(it.lba, self.gather(task))
+            self.process(task, 0, layout.SECTOR * it.count)
         self.bits_fis(GOOD, 0, 1 << task.slot)
 
     def moved(self, it: Asked, failure: Optional[Failure]) -> int:
@@ -182,6 +185,7 @@ class Hba(Registers):
         elif it.kind == "dma" and not failure:
             moved = self.gather(task)
             self.drive.write(it.lba, moved)
+            self.process(task, 0, len(moved))
         if it.kind == "dma" and moved:
             self.count(task, len(moved))
         if failure:
@@ -201,6 +205,8 @@ class Hba(Registers):
             self.pio_setup(task, not it.write, ends, it.write and lba == it.lba)
             if not it.write:
                 self.block(task, self.drive.read(it.lba, lba + 1 - it.lba))
+            else:
+                self.process(task, layout.SECTOR * (lba - it.lba), layout.SECTOR * (lba + 1 - it.lba))
             self.end_pio(task, ends, it.write and lba == it.lba)
         if it.write and not failure:
             self.drive.write(it.lba, data)
@@ -305,6 +311,14 @@ class Hba(Registers):
             at += length
         if at < len(data):
             self.words[PX_IS] |= OFS
+        self.process(task, after, len(data))
+
+    def process(self, task: Task, after: int, end: int) -> None:
+        """Data have moved up to a byte: DPS if the last one of an entry with I is new among them (sections 3.3.5 and 4.2.3.3)."""
+        at = 0
+        for (_, length), interrupt in zip(task.runs, task.interrupts):
+            at += length
+            self.words[PX_IS] |= DPS if interrupt and after < at <= end else 0
 
     def gather(self, task: Task) -> bytes:
         return b"".join(self.get(address, length) for address, length in task.runs)[: layout.SECTOR * task.asked.count]

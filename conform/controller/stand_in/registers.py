@@ -9,7 +9,7 @@ from .disk import Disk
 
 CAP, PI, VS = 0x00, 0x0C, 0x10
 CLO, SUD, POD, FR, CR = 0x8, 0x2, 0x4, 0x4000, 0x8000
-DHRS, PSS, SDBS, OFS, IFS, HBFS, TFES = 0x1, 0x2, 0x8, 1 << 24, 1 << 27, 1 << 29, 1 << 30
+DHRS, PSS, SDBS, DPS, OFS, IFS, HBFS, TFES = 0x1, 0x2, 0x8, 0x20, 1 << 24, 1 << 27, 1 << 29, 1 << 30
 DIAG_X, DIAG_W, DIAG_N = 1 << 26, 1 << 18, 1 << 16
 CONSTANT = {CAP: 0xC1249F00, PI: 1, VS: 0x00010301}
 CLEARED_BY_ONE, SET_BY_ONE = (IS, PX_IS, PX_SERR), (PX_SACT, PX_CI)
@@ -29,6 +29,7 @@ class Task(NamedTuple):
     fis: bytes
     flags: int
     runs: List[Tuple[int, int]]
+    interrupts: List[bool]  # I of each
     asked: Asked
 
 

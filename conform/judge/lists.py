@@ -1,0 +1,35 @@
+"""Which list of known differences is a QEMU's."""
+import os
+import re
+import subprocess
+from typing import NamedTuple, Tuple
+
+SECONDS = 20  # in which a QEMU says its version
+NAMED = re.compile(r"qemu-([0-9]+)\.([0-9]+)\.json")
+
+
+class Listed(NamedTuple):
+    """A list's path, and what is to be said before it is used, or nothing."""
+
+    path: str
+    notice: str
+
+
+def version_of(program: str) -> Tuple[int, ...]:
+    """Major and minor version of a QEMU; nothing if it can't be told."""
+    try:
+        said = subprocess.run([program, "--version"], stdout=subprocess.PIPE, stderr=subprocess.DEVNULL, timeout=SECONDS, check=False).stdout.decode("utf-8", "replace")
+    except (OSError, subprocess.SubprocessError):
+        return ()
+    found = re.search(r"version ([0-9]+)\.([0-9]+)", said)
+    return (int(found[1]), int(found[2])) if found else ()
+
+
+def list_for(folder: str, program: str) -> Listed:
+    """The list of a QEMU: that of its version, or of the next older one that has a list."""
+    lists = {(int(it[1]), int(it[2])): it[0] for it in map(NAMED.fullmatch, os.listdir(folder)) if it}
+    there = version_of(program)
+    own = max((it for it in lists if it <= there), default=min(lists))
+    notice = "" if own == there or not there else (
+        f"this is QEMU {there[0]}.{there[1]}, and the list of known differences is that of QEMU {own[0]}.{own[1]}: what QEMU {there[0]}.{there[1]} does otherwise is told as a new difference")
+    return Listed(os.path.join(folder, lists[own]), notice)
