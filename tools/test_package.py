@@ -21,6 +21,8 @@ assert spec
 package = importlib.util.module_from_spec(spec)
 loader.exec_module(package)
 
+from shipped import bad_links, relinked  # noqa: E402  (tools/ is on the path by the package)
+
 
 class Package(unittest.TestCase):
     def test_a_digest_is_that_of_the_command_in_the_statement(self) -> None:
@@ -46,6 +48,26 @@ class Package(unittest.TestCase):
         self.assertIn("clap", used)
         self.assertIn("std_heap", used)
         self.assertNotIn("word_bits", used)
+
+    def test_a_link_leads_to_the_place_of_what_it_names(self) -> None:
+        places = {"docs/C.md": ["/usr/share/doc/ahci/C.md", "/usr/share/doc/dev/C.md"], "README.md": ["/usr/share/doc/ahci/README.md"],
+                  "host/README.md": ["/usr/share/doc/nbd/host.md"], "host/events/a.script": ["/usr/share/doc/nbd/examples/events/a.script"]}
+        cases = [
+            ("[C](docs/C.md#calls)", "README.md", "/usr/share/doc/ahci/README.md", "[C](C.md#calls)"),
+            ("[C](docs/C.md)", "README.md", "/usr/share/doc/dev/README.md", "[C](C.md)"),
+            ("[scripts](../host), [events](../host/events)", "docs/C.md", "/usr/share/doc/dev/C.md", "[scripts](../nbd/host.md), [events](../nbd/examples/events)"),
+            ("[`lib.rt`](../crates/ahci/src/lib.rt) and [a](https://a.b), [here](#here)", "docs/C.md", "/usr/share/doc/dev/C.md", "`lib.rt` and [a](https://a.b), [here](#here)"),
+            ("![whole](docs/whole.svg) ![C](docs/C.md)", "README.md", "/usr/share/doc/ahci/README.md", "whole ![C](C.md)"),
+            ("```\n[C](docs/C.md)\n```", "README.md", "/usr/share/doc/ahci/README.md", "```\n[C](docs/C.md)\n```"),
+        ]
+        for text, page, place, expected in cases:
+            self.assertEqual(expected, relinked(text, page, place, places))
+
+    def test_a_link_to_no_file_is_found(self) -> None:
+        with tempfile.TemporaryDirectory() as room:
+            with open(f"{room}/a.md", "w", encoding="utf-8") as file:
+                file.write("[a](a.md) [b](b.md#c) [d](https://d)\n```\n[e](e.md)\n```\n")
+            self.assertEqual(["a.md: b.md#c"], list(bad_links(room)))
 
 
 if __name__ == "__main__":
