@@ -7,11 +7,10 @@ from typing import Any, List, Sequence
 
 from suite import Check, expect
 import surviving
-from surviving import FAILED, MANY, NONE, ONE, RESET, SHIPPED, SLOW, SOME, UNFOUND, Event
+from surviving import BUSY_MACHINE, FAILED, MANY, NONE, ONE, RESET, SHIPPED, SLOW, SOME, UNFOUND, Event
 
 UNC, IDNF, ABRT = (rf"error: \{{ {name} \}}" for name in ("UNC", "IDNF", "ABRT"))
 UNCHECKED = r"failed to read log page 10h"
-BUSY_MACHINE = "patience=60"  # seconds of a command: no time-out comes by a machine that is slow
 
 
 def shipped(name: str, errors: str, says: Sequence[str] = (), **more: Any) -> Event:

@@ -31,7 +31,7 @@ RESET = r"ata1: hard resetting link"
 FAILED = r"ata1: COMRESET failed \(errno=-16\)"  # which the current Linux doesn't say
 SLOW = r"ata1: link is slow to respond"
 
-
+BUSY_MACHINE = "patience=60"  # seconds of a command: no time-out comes by a machine that is slow
 BOTH = ("kernel", "current")
 
 
@@ -71,7 +71,7 @@ EVENTS: Sequence[Event] = (
     Event("one after the other", each(ROW).replace("any do fail", "read do fail"), ONE, [RESET, r"host bus error", r"interface fatal error"]),
     Event("stall", at("stall"), NONE, [RESET]),
     Event("slow, late_interrupt, send_interrupt, find_link", each(("slow 300ms", "late_interrupt 100ms", "send_interrupt", "find_link")), NONE, is_quiet=True),
-    Event("fail 40, a read", at("fail 40", "on 700th read"), ONE, [r"error: \{ UNC \}"]),
+    Event("fail 40, a read", at("fail 40", "on 700th read"), ONE, [r"error: \{ UNC \}"], words=BUSY_MACHINE),
     Event("fail 40, a write", at("fail 40", "on 200th write"), ONE, [r"error: \{ UNC \}"]),
     Event("fail 10", at("fail 10"), NONE, [r"error: \{ IDNF \}"]),
     Event("fail 04", at("fail 04"), NONE, [r"error: \{ ABRT \}"]),
@@ -82,9 +82,9 @@ EVENTS: Sequence[Event] = (
     Event("lose_link", at("lose_link"), NONE, [RESET]),
     Event("lose_link, find_link", at("lose_link then wait 100ms then find_link"), NONE, [RESET]),
     Event("unplug", at("unplug"), MANY, [r"ata1\.00: disable"], "no disk"),
-    Event("unplug, plug", at("unplug then wait 2s then plug"), NONE, [RESET]),
+    Event("unplug, plug", at("unplug then wait 2s then plug"), NONE, [RESET], words=BUSY_MACHINE),
     Event("crc_error and the four like it", each([f"{it}_error" for it in ERRORS]), NONE, is_quiet=True),
-    Event("fatal_crc_error and the four like it", each([f"fatal_{it}_error" for it in ERRORS]), NONE, [RESET, r"interface fatal error"]),
+    Event("fatal_crc_error and the four like it", each([f"fatal_{it}_error" for it in ERRORS]), NONE, [RESET, r"interface fatal error"], words=BUSY_MACHINE),
     Event("hold_signature", at("hold_signature 3s then fatal_crc_error"), NONE, [RESET]),
     Event("lose_signature", at("lose_signature then fatal_crc_error"), NONE, [RESET, FAILED], kernels=("kernel",)),
     Event("lose_signature", at("lose_signature then fatal_crc_error"), NONE, [RESET, SLOW], kernels=("current",)),

@@ -3,7 +3,7 @@
 serial() { tail -c +5 "/sys/block/$1/device/vpd_pg80" | tr -d ' '; }
 disk() { cd /sys/block && ls -d sd* 2> /dev/null | head -n 1; }
 is_other() { [ -n "$1" ] && [ "$(serial "$1")" != "$first" ]; }
-echo 5 > /sys/block/sda/device/timeout
+echo 30 > /sys/block/sda/device/timeout # seconds: the machine may be busy
 echo 2 > /sys/block/sda/queue/nomerges # each request is a command of its own
 first=$(serial sda)
 echo "CHECK first $first"
