@@ -217,4 +217,4 @@ def linux_lost(room: str) -> str:
 
 
 CHECKS = [Check(steps, title="Events, step by step"), Check(as_options, title="Events and options"), Check(never, title="Events that never happen"), Check(judged, title="Scripts that are judged"),
-          Check(linux_strange, title="Linux, strange interrupts"), Check(linux_lost, title="Linux, a lost interrupt")]
+          Check(linux_strange, title="Linux, strange interrupts"), Check(linux_lost, title="Linux, a lost interrupt", is_long=True)]

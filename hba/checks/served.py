@@ -358,7 +358,7 @@ def linux_kvm(room: str) -> str:
 
 CHECKS = [by(VFIO_USER, it) for it in (
     Check(linux_line, title="Linux, interrupts by INTA#"), Check(linux_messages, title="Linux, memory without a file"), Check(linux_current, title="Linux 7, two processors and 5 GiB"),
-    Check(linux_arm, title="Linux on arm64"), Check(uboot_arm, title="U-Boot on arm64"), Check(resets, title="Ten resets of the machine", is_long=True),
+    Check(linux_arm, title="Linux on arm64"), Check(uboot_arm, title="U-Boot on arm64", is_long=True), Check(resets, title="Ten resets of the machine", is_long=True),
     Check(plugged, title="Hot plug"), Check(often_plugged, title="Hot plug 20 times", is_long=True), Check(served, title="A server of its own"), Check(paths, title="Paths of sockets"),
     Check(wrong_messages, title="Wrong messages"), Check(never_late, title="Never late"), Check(held, title="Held interrupts"), Check(interrupts_tcg, title="Interrupts"),
     Check(interrupts_kvm, title="Interrupts under KVM"), Check(linux_kvm, title="Linux under KVM"))]

@@ -32,8 +32,10 @@ BARE = ["Garbage", "Reads that fail", "Rules", "Much that is written", "A disk o
         "The judge, drivers without a fault", "The judge, from a stretch on", "Power losses, with a cache", "Power losses, without a cache", "Power losses, a large disk", "Power losses that are wrong", "Power losses and a kill", "Power losses without an image that can be written",
         "Power losses, 2,000"]
 # these run by the proxy, too
-ALSO = ["SeaBIOS and a boot sector", "SeaBIOS and an error", "GRUB on BIOS", "U-Boot", "Linux, flushes and a kill", "Garbage", "A killed guest", "Rules", "Reads that fail", "A kill after an answer",
+ALSO = ["SeaBIOS and a boot sector", "SeaBIOS and an error", "Linux, flushes and a kill", "Garbage", "A killed guest", "Rules", "Reads that fail", "A kill after an answer",
         "The judge, faults of a driver", "The judge, drivers without a fault"]
+# and these by the proxy in the long checks
+ALSO_LONG = ["GRUB on BIOS", "U-Boot"]
 
 
 def missing_qemu(_: str) -> str:
@@ -54,6 +56,8 @@ def ways_of(check: Check, has_new: bool) -> List[Check]:
     if check.name in WITHOUT:
         return [check]
     by_vfio_user = [by(VFIO_USER, check)] if has_new or check.name in BARE else []
+    if check.name in ALSO_LONG and by_vfio_user:
+        return [*by_vfio_user, by(PROXY, check)._replace(is_long=True)]
     return by_vfio_user + ([by(PROXY, check)] if check.name in ALSO or not by_vfio_user else [])
 
 
