@@ -29,7 +29,7 @@ BASE = os.path.join(FOLDER, "any_controller.json")
 ABOUT = """\
 Plays random driver programs on an emulator's AHCI controller, and compares it with the reference model after each access: 31 registers, the
 interrupt line, all memory of the driver with what lies around it, and the disk. A program ends at its first difference that the list of known
-ones doesn't have; what was expected, what was got, the section of the standard and the program up to it are told.
+ones doesn't have; what was expected, what was got, the section of the standard and the program up to it are reported.
 """
 EXAMPLES = """\
 Levels:
@@ -62,7 +62,7 @@ def words() -> Words:
     made.add_argument("--seed", metavar="A-B", help="judge the random programs of these seeds, as 7, 1-500 or 1-50,77")
     made.add_argument("--level", metavar="NAME", default="good", help="of the random programs: " + ", ".join(LEVELS) + " (default: good)")
     made.add_argument("--program", metavar="FILE", action="append", default=[], help="judge this program; - is standard input")
-    made.add_argument("--play", metavar="FILE", help="play this program on the emulator alone, and tell what changes")
+    made.add_argument("--play", metavar="FILE", help="play this program on the emulator alone, and report what changes")
     made.add_argument("--alone", action="store_true", help="play the programs on the model alone, without an emulator: no rule that is judged alone may be broken")
     made.add_argument("--record", metavar="FILE", help="record the programs, and judge nothing: needs no library")
     made.add_argument("--recorded", metavar="FILE", help="judge the recordings of this file")
@@ -70,7 +70,7 @@ def words() -> Words:
     made.add_argument("--print", action="store_true", help="print the programs, and judge nothing")
     made.add_argument("--known", metavar="FILE", help="the list of known differences, or `none` (default: the emulator's own)")
     made.add_argument("--base", metavar="FILE", help="the list of what any controller may do otherwise, or `none` (default: conform/controller/any_controller.json)")
-    made.add_argument("--without", metavar="NAME", help="leave this entry out of the list, so that it is told as a new difference")
+    made.add_argument("--without", metavar="NAME", help="leave this entry out of the list, so that it is reported as a new difference")
     made.add_argument("--draft-list", metavar="FILE", help="go on past every difference, and write a first list of them to this file")
     made.add_argument("--shrink", action="store_true", help="print the smallest program that shows each new difference")
     made.add_argument("--fault", metavar="NAME", help="plant this fault in the stand-in; `list` names them, and the rule that each breaks")
@@ -158,23 +158,23 @@ class Progress:
     """A line on standard error that is written anew, if that is a terminal; else one every half minute."""
 
     def __init__(self, quiet: bool) -> None:
-        self.quiet, self.begun, self.told = quiet, time.monotonic(), time.monotonic()
+        self.quiet, self.begun, self.reported = quiet, time.monotonic(), time.monotonic()
         self.is_terminal = sys.stderr.isatty()
 
     @property
     def seconds(self) -> float:
         return time.monotonic() - self.begun
 
-    def tell(self, done: List[Result]) -> None:
-        if self.quiet or time.monotonic() - self.told < (0.5 if self.is_terminal else 30):
+    def report(self, done: List[Result]) -> None:
+        if self.quiet or time.monotonic() - self.reported < (0.5 if self.is_terminal else 30):
             return
-        self.told = time.monotonic()
+        self.reported = time.monotonic()
         new = sum(it.judged.end == "new" for it in done)
         print(f"{len(done):,} programs, {new} with a new difference, {self.seconds:.0f} seconds", file=sys.stderr, end="\r" if self.is_terminal else "\n", flush=True)
 
 
-def tell(asked: argparse.Namespace, result: Result) -> None:
-    """What is told of one program."""
+def print_result(asked: argparse.Namespace, result: Result) -> None:
+    """What is reported of one program."""
     if asked.json:
         print(json.dumps(report.as_json(result)), flush=True)
     elif result.judged.end == "new":
@@ -189,14 +189,14 @@ def judged(asked: argparse.Namespace, known: Known) -> Iterator[Result]:
 
 
 def run(asked: argparse.Namespace) -> int:
-    """Judges all programs, and tells of each as it ends."""
+    """Judges all programs, and reports each as it ends."""
     known, progress = known_for(asked), Progress(asked.quiet or asked.brief)
     draft = Draft(known) if asked.draft_list else None
     done: List[Result] = []
     for result in judged(asked, draft or known):
         done.append(result)
-        tell(asked, result)
-        progress.tell(done)
+        print_result(asked, result)
+        progress.report(done)
         if result.judged.end == "new" and not asked.go_on:
             break
     if draft:
@@ -297,5 +297,5 @@ def main(given: Optional[List[str]] = None) -> int:
         print("ahci_conform: stopped", file=sys.stderr)
         return 130
     except BrokenPipeError:
-        os.dup2(os.open(os.devnull, os.O_WRONLY), 1)  # nothing more can be told
+        os.dup2(os.open(os.devnull, os.O_WRONLY), 1)  # nothing more can be reported
         return 1

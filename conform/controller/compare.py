@@ -68,7 +68,7 @@ def line_of(look: Look) -> bool:
 
 
 def answer(it: Moment) -> Iterator[Difference]:
-    """A read has to be the bytes that the registers have; where these differ that has been told already."""
+    """A read has to be the bytes that the registers have; where these differ that has been reported already."""
     if not isinstance(it.op, Read) or it.model.read == it.emulator.read:
         return
     for look in (it.model, it.emulator):
@@ -124,7 +124,7 @@ def differing(expected: bytes, got: bytes, olds: Olds = None, steps: Tuple[int, 
 
 
 def memory(it: Moment) -> Iterator[Difference]:
-    told: Set[Tuple[str, int]] = set()
+    reported: Set[Tuple[str, int]] = set()
     for part, base in enumerate(layout.PARTS):
         expected, got = it.model.memory[part], it.emulator.memory[part]
         olds = (it.was_model.memory[part], it.was.memory[part]) if it.was_model and it.was else None
@@ -132,10 +132,10 @@ def memory(it: Moment) -> Iterator[Difference]:
             continue
         for at in differing(expected, got, olds):
             name, begin, length = place_of(base.base + at, it)
-            if (name, begin) not in told:
-                told.add((name, begin))
+            if (name, begin) not in reported:
+                reported.add((name, begin))
                 yield run(name, expected, got, olds, (begin - base.base, length, begin))
-            if len(told) > MOST_PLACES:
+            if len(reported) > MOST_PLACES:
                 return
 
 

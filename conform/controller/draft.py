@@ -6,7 +6,7 @@ from typing import Any, Dict, FrozenSet, List
 from .compare import Difference
 from .known import Entry, Known, entry_of
 
-# facts that tell kinds of moments apart, the first that is true
+# facts by which kinds of moments differ, the first that is true
 MOMENTS = ("power-on", "signature", "link down", "control", "queued", "dma", "pio", "page", "verify", "none", "other", "read", "go")
 
 

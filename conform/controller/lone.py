@@ -106,7 +106,7 @@ def sanitized() -> bool:
 
 
 def table(all_of: Iterable[Played]) -> Iterator[str]:
-    """What is told: each rule that is broken, at once, and figures at the end."""
+    """What is reported: each rule that is broken, at once, and figures at the end."""
     begun, programs, operations, broken = time.monotonic(), 0, 0, 0
     for it in all_of:
         programs, operations, broken = programs + it.programs, operations + it.operations, broken + len(it.broken)

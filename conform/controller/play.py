@@ -39,7 +39,7 @@ def data_written(was: Look, now: Look, commands: List[Command]) -> Iterator[str]
 
 
 def played(it: Controller, ops: Program) -> Iterator[str]:
-    """A line for each operation with what it has changed; the last one tells a death."""
+    """A line for each operation with what it has changed; the last one says that it died."""
     it.start()
     try:
         found = record(it, ops)
@@ -49,9 +49,9 @@ def played(it: Controller, ops: Program) -> Iterator[str]:
     for at, now in enumerate(found.looks):
         was = found.looks[at - 1] if at else None
         op = ops[at - 1] if at else None
-        told = [] if isinstance(op, Command) else [*changes(was, now), *(data_written(was, now, commands) if was else [])]
+        reported = [] if isinstance(op, Command) else [*changes(was, now), *(data_written(was, now, commands) if was else [])]
         commands += [op] if isinstance(op, Command) else []
         read = [f"answers {now.read:x}"] if now.read is not None else []
-        yield f"{at:4}  {line_of(op) if op else 'power-on'}\n        {'; '.join([*read, *dict.fromkeys(told)]) or 'nothing changes'}"
+        yield f"{at:4}  {line_of(op) if op else 'power-on'}\n        {'; '.join([*read, *dict.fromkeys(reported)]) or 'nothing changes'}"
     if found.death:
         yield f"{len(found.looks):4}  {line_of(ops[len(found.looks) - 1]) if found.looks else 'reset'}\n        {found.death}"

@@ -159,7 +159,7 @@ class Qemu(Controller):
             shutil.rmtree(self.folder, ignore_errors=True)
             self.folder = ""
 
-    # ---- what it is told ----
+    # ---- what it gets ----
 
     def ask(self, *commands: str) -> List[bytes]:
         """Commands of the qtest protocol, and what follows each OK."""

@@ -27,7 +27,7 @@ ABOUT = """\
 Plays scripts on an emulator's AHCI port as a driver would, and compares the port with the reference model after each line:
 all registers, the FISes received at the line, a read's data, the memory around them, the disk, the identify page, PRDBC where it counts.
 A script ends at the first line with a difference that the list of known ones doesn't have; the line, what was expected, what was got,
-whose rule it is and the trace around it are told.
+whose rule it is and the trace around it are reported.
 """
 EXAMPLES = """\
 Exit status:
@@ -42,7 +42,7 @@ Examples:
   conform/ahci_conform --seed 7 --pieces scattered        one, with all data in many pieces; --pieces-seed 8 lays them otherwise
   conform/ahci_conform --seed 7 --json | jq .new          one seed, for tools
   conform/ahci_conform --without no_error_log conform/qemu/no_error_log.ahci
-                                                          a known difference, told as a new one
+                                                          a known difference, reported as a new one
   conform/ahci_conform --emulator mine.py:Mine s.ahci     an adapter of your own (conform/ADAPTERS.md)
   conform/ahci_conform --emulator mine.py:Mine --seed 1-50 --draft-list mine.json
                                                           a first list of what it does otherwise
@@ -69,7 +69,7 @@ def words() -> Words:
     made.add_argument("--model", metavar="PATH", help="the model's program (default: the one that ./ahci --build makes, else ./ahci, unproved and slow)")
     made.add_argument("--known", metavar="FILE", help="the list of known differences, or `none` (default: the emulator's own)")
     made.add_argument("--base", metavar="FILE", help="the list of what any port may do otherwise, or `none` (default: conform/any_port.json; none with --shown and --without)")
-    made.add_argument("--without", metavar="NAME", help="leave this entry out of the list, so that it is told as a new difference")
+    made.add_argument("--without", metavar="NAME", help="leave this entry out of the list, so that it is reported as a new difference")
     made.add_argument("--pieces", choices=("plain", "scattered", "both"), help="where data lie: as in the model, in many pieces, or now one and now the other (default: both for --seed, plain for SCRIPT)")
     made.add_argument("--pieces-seed", metavar="N", type=int, help="the seed of the pieces (default: that of the script, 1 for SCRIPT)")
     made.add_argument("--draft-list", metavar="FILE", help="go on past every difference, and write a first list of them to this file")
@@ -157,8 +157,8 @@ def known_for(asked: argparse.Namespace) -> Known:
     return known._replace(entries=[entry for entry in known.entries if entry.name != asked.without])
 
 
-def tell(asked: argparse.Namespace, judged: Judged) -> None:
-    """What is told of one script when it has ended."""
+def print_result(asked: argparse.Namespace, judged: Judged) -> None:
+    """What is reported of one script when it has ended."""
     text = "\n".join(report.differences_text(judged)) if judged.new else ""
     if asked.json:
         print(json.dumps(report.as_json(judged)), flush=True)
@@ -178,7 +178,7 @@ def tell(asked: argparse.Namespace, judged: Judged) -> None:
 
 
 def run(asked: argparse.Namespace) -> int:
-    """Judges all scripts, and tells of each as it ends."""
+    """Judges all scripts, and reports each as it ends."""
     if not asked.scripts and not asked.seed:
         raise Wrong("SCRIPT or --seed is missing (conform/ahci_conform --help explains)")
     make, known, program = adapter_of(asked), known_for(asked), model.program_at(asked.model, TOP)
@@ -188,7 +188,7 @@ def run(asked: argparse.Namespace) -> int:
     for name, text, way in scripts_in(asked):
         judged = judge(name, model.trace_of(program, text), make, known, way, draft)
         runs.append(judged)
-        tell(asked, judged)
+        print_result(asked, judged)
         if judged.new and not asked.go_on:
             break
     if draft:
@@ -255,5 +255,5 @@ def main(given: Optional[List[str]] = None) -> int:
         print("ahci_conform: stopped", file=sys.stderr)
         return 130
     except BrokenPipeError:
-        os.dup2(os.open(os.devnull, os.O_WRONLY), 1)  # nothing more can be told
+        os.dup2(os.open(os.devnull, os.O_WRONLY), 1)  # nothing more can be reported
         return 1

@@ -16,7 +16,7 @@ class Comparer:
         self.carried: Dict[str, Difference] = {}
 
     def expected(self, name: str) -> int:
-        """The model's word. A slot that the port wasn't told of yet has no bit in PxCI."""
+        """The model's word. A slot that the port doesn't know of yet has no bit in PxCI."""
         untold = sum(1 << tag for tag in self.driver.untold)
         return self.words[name] & ~untold if name == "PxCI" else self.words[name]
 

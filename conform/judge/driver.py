@@ -29,7 +29,7 @@ def first_apart(expected: bytes, got: bytes) -> int:
 
 
 class Driver:
-    """What a driver has to remember: its windows, which slots it has told the port of, and what the disk should hold."""
+    """What a driver has to remember: its windows, which slots it has announced to the port, and what the disk should hold."""
 
     def __init__(self, adapter: Guarded, layer: Layer, page: bytes = b"") -> None:
         self.adapter, self.layer, self.page = adapter, layer, page
@@ -59,8 +59,8 @@ class Driver:
         actions.get(word, lambda _: None)(step)
         return self.found
 
-    # what is told of a difference
-    def tell(self, place: str, expected: bytes, got: bytes, note: str = "") -> None:
+    # what is reported of a difference
+    def report(self, place: str, expected: bytes, got: bytes, note: str = "") -> None:
         if expected != got:
             self.found.append(Difference(place, expected, got, differs(expected, got), note))
 
@@ -144,7 +144,7 @@ class Driver:
             self.alone = tags[-1] if len(tags) > 1 else None
             for tag in tags:
                 if not self.adapter.complete(tag):
-                    self.tell("disk request", b"\1", b"\0", f"the disk was asked for nothing by tag {tag}")
+                    self.report("disk request", b"\1", b"\0", f"the disk was asked for nothing by tag {tag}")
                 self.wait(lambda tag=tag: not self.read(layout.PX_SACT) >> tag & 1)  # type: ignore[misc]
         self.wait_for("set_device_bits")
         windows = [self.windows[tag] for tag in tags]
@@ -159,7 +159,7 @@ class Driver:
     def compare_header(self, window: Window, got: bytes) -> None:
         """Of a command header the HBA writes PRDBC alone."""
         at, (before, after) = layout.header_place(window.tag if window.tag != PLAIN else 0), (it[:4] + bytes(4) + it[8:] for it in (window.header, got))
-        self.tell(f"command header of {named(window)}", before, after, f"at {at:x}h; PRDBC aside")
+        self.report(f"command header of {named(window)}", before, after, f"at {at:x}h; PRDBC aside")
 
     def compare_memory(self, window: Window, text: bytes) -> bytes:
         """A read's data should have come, and nothing else is changed. Answers what stands in the pieces."""
@@ -170,12 +170,12 @@ class Driver:
         got = Memory([(address, data) for (address, _), data in zip(places, self.adapter.read_places(places))])
         data = got.gather(window.used)
         if window.tag != PLAIN and data != text:
-            self.tell(f"data of tag {window.tag}", text, data, f"{window.spot(first_apart(text, data))} (laid {window.way})")
-        self.tell("command table", window.table, got.take(window.table_at, len(window.table)), f"at {window.table_at:x}h")
+            self.report(f"data of tag {window.tag}", text, data, f"{window.spot(first_apart(text, data))} (laid {window.way})")
+        self.report("command table", window.table, got.take(window.table_at, len(window.table)), f"at {window.table_at:x}h")
         got.put(window.table_at, window.table)
         got.scatter(window.used, expected.gather(window.used))
         for (address, _), before, after in zip(places, expected.blocks, got.blocks):
-            self.tell(f"memory beside the data of {named(window)}", bytes(before), bytes(after), f"from {address:x}h on (laid {window.way})")
+            self.report(f"memory beside the data of {named(window)}", bytes(before), bytes(after), f"from {address:x}h on (laid {window.way})")
         return data
 
     # the disk
@@ -188,12 +188,12 @@ class Driver:
             writers = [it for it in windows if it.write and it.lba <= lba < it.lba + it.sectors]
             spots = [f"tag {it.tag}, {it.spot((lba - it.lba) * layout.SECTOR + first_apart(expected, got))} (laid {it.way})" for it in writers]
             if halted or lba not in self.spoiled:
-                self.tell(f"disk, sector {lba}", expected, got, "; ".join(spots) or "no command of this line writes this sector")
+                self.report(f"disk, sector {lba}", expected, got, "; ".join(spots) or "no command of this line writes this sector")
 
     def compare_sectors(self, ranges: Sequence[range], note: str = "") -> None:
         for lba, got in self.image.apart(self.adapter, ranges):
             if lba not in self.spoiled:
-                self.tell(f"disk, sector {lba}", self.image.sector(lba), got, note)
+                self.report(f"disk, sector {lba}", self.image.sector(lba), got, note)
 
     def compare_end(self) -> List[Difference]:
         """At a script's end."""
@@ -206,13 +206,13 @@ class Driver:
         tag, error, lba = int(step.words[1]), int(step.words[2], 16), int(step.words[3])
         self.failure = (error, lba)
         if not self.adapter.fail(tag, error, lba):
-            self.tell("disk request", b"\1", b"\0", f"the disk was asked for nothing by tag {tag}")
+            self.report("disk request", b"\1", b"\0", f"the disk was asked for nothing by tag {tag}")
         self.wait(lambda: bool(self.read(layout.PX_TFD) & ERR))
         self.wait_for("set_device_bits")
         self.compare_disk([tag])
 
     def try_halted(self, step: Step) -> None:
-        """After an error nothing goes on: the disk's requests are let go, and a slot is told, all the same."""
+        """After an error nothing goes on: the disk's requests are let go, and a slot is reported, all the same."""
         tags = [int(it) for it in step.words[1:]]
         wanted = "issued" if step.words[0] == "accept" else "accepted"
         if any(step.phases.get(tag) != wanted or wanted == "issued" and tag not in self.untold for tag in tags):
@@ -237,14 +237,14 @@ class Driver:
     def show(self, step: Step) -> None:
         lba = int(step.words[1])
         self.compare_sectors([range(lba, lba + 1)])
-        self.tell(OWN_IMAGE, bytes.fromhex(step.answer.split(" ")[2]), self.image.sector(lba)[:1])
+        self.report(OWN_IMAGE, bytes.fromhex(step.answer.split(" ")[2]), self.image.sector(lba)[:1])
 
     def collect(self, step: Step) -> None:
         """The model's answer shows whether the tool's own image, which data are compared with, is the model's."""
         answer = step.answer.split(" ")
         if answer[0] == "read":
             text = self.texts[int(step.words[1])]
-            self.tell(OWN_IMAGE, bytes.fromhex("".join(answer[2:])), text[:: layout.SECTOR])
+            self.report(OWN_IMAGE, bytes.fromhex("".join(answer[2:])), text[:: layout.SECTOR])
 
     # commands that aren't queued
     def plain(self, step: Step) -> bytes:
@@ -259,7 +259,7 @@ class Driver:
         self.wait(lambda: not self.read(layout.PX_TFD) & BUSY)
         self.adapter.settle()
         header = self.adapter.read_memory(place, HEADER)
-        self.tell("PRDBC", window.header[7:3:-1], header[7:3:-1], f"slot 0 (laid {window.way})")
+        self.report("PRDBC", window.header[7:3:-1], header[7:3:-1], f"slot 0 (laid {window.way})")
         self.compare_header(window, header)
         data = self.compare_memory(window, window.text)
         self.adapter.write_memory(place, aside)
@@ -270,7 +270,7 @@ class Driver:
         data, word, shown = self.plain(step), int(step.words[1]), bytes.fromhex(step.answer.split(" ")[2])
         expected = {at: self.page[2 * at : 2 * at + 2][::-1] for at in range(len(self.page) // 2)}
         for at, there in {**expected, word: shown}.items():
-            self.tell(f"identify word {at}", there, data[2 * at : 2 * at + 2][::-1])
+            self.report(f"identify word {at}", there, data[2 * at : 2 * at + 2][::-1])
 
     def flush(self, step: Step) -> None:
         self.plain(step)
@@ -279,8 +279,8 @@ class Driver:
         """AHCI 1.3.1, section 6.2.2: stop, clear, start, and read the log of the error."""
         self.write(layout.PX_CMD, layout.FRE)
         self.wait(lambda: not self.read(layout.PX_CMD) & 0x8000)
-        self.tell("PxSACT", bytes(4), self.read(layout.PX_SACT).to_bytes(4, "big"), "while ST is 0")
-        self.tell("PxCI", bytes(4), self.read(layout.PX_CI).to_bytes(4, "big"), "while ST is 0")
+        self.report("PxSACT", bytes(4), self.read(layout.PX_SACT).to_bytes(4, "big"), "while ST is 0")
+        self.report("PxCI", bytes(4), self.read(layout.PX_CI).to_bytes(4, "big"), "while ST is 0")
         self.adapter.give_up()
         self.untold.clear()
         self.clear_area()
@@ -288,10 +288,10 @@ class Driver:
         self.write(layout.PX_IS, ALL)
         self.write(layout.PX_CMD, layout.FRE | layout.ST)
         data, (error, lba) = self.plain(step), self.failure
-        self.tell("log 10h", log_page(step.entries[0]["tag"], error, lba), data)
+        self.report("log 10h", log_page(step.entries[0]["tag"], error, lba), data)
         for at in sorted(self.spoiled):
             self.adapter.put_sector(at, self.image.sector(at))
-            self.image.told.pop(at, None)
+            self.image.reported.pop(at, None)
         self.spoiled.clear()
 
     def stop(self) -> None:

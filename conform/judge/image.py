@@ -16,7 +16,7 @@ class Image:
         self.count = sectors
         self.data = bytearray(sectors * SECTOR)
         self.written: List[range] = []
-        self.told: Dict[int, bytes] = {}  # sectors that differ since an earlier line, as they were then
+        self.reported: Dict[int, bytes] = {}  # sectors that differ since an earlier line, as they were then
 
     def sector(self, lba: int) -> bytes:
         return bytes(self.data[lba * SECTOR : (lba + 1) * SECTOR])
@@ -48,14 +48,14 @@ class Image:
             got = adapter.sectors(sectors.start, len(sectors))
             if got is None:
                 return
-            if got == self.data[sectors.start * SECTOR : sectors.stop * SECTOR] and not self.told:
+            if got == self.data[sectors.start * SECTOR : sectors.stop * SECTOR] and not self.reported:
                 continue
             for at, lba in enumerate(sectors):
                 there = got[at * SECTOR : (at + 1) * SECTOR]
                 if there == self.sector(lba):
-                    self.told.pop(lba, None)
-                elif self.told.get(lba) != there:
-                    self.told[lba] = there
+                    self.reported.pop(lba, None)
+                elif self.reported.get(lba) != there:
+                    self.reported[lba] = there
                     yield lba, there
 
 

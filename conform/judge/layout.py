@@ -68,7 +68,7 @@ def header_place(tag: int) -> int:
 
 
 def bits_of(place: str, word: int) -> List[str]:
-    """The names of the bits that are 1 in a register's word; a bit without a name is told by its number."""
+    """The names of the bits that are 1 in a register's word; a bit without a name is named by its number."""
     if place not in REGISTERS:
         return []
     names = REGISTERS[place][2]

@@ -16,7 +16,7 @@ class Listed(NamedTuple):
 
 
 def version_of(program: str) -> Tuple[int, ...]:
-    """Major and minor version of a QEMU; nothing if it can't be told."""
+    """Major and minor version of a QEMU; nothing if it isn't known."""
     try:
         said = subprocess.run([program, "--version"], stdout=subprocess.PIPE, stderr=subprocess.DEVNULL, timeout=SECONDS, check=False).stdout.decode("utf-8", "replace")
     except (OSError, subprocess.SubprocessError):
@@ -31,5 +31,5 @@ def list_for(folder: str, program: str) -> Listed:
     there = version_of(program)
     own = max((it for it in lists if it <= there), default=min(lists))
     notice = "" if own == there or not there else (
-        f"this is QEMU {there[0]}.{there[1]}, and the list of known differences is that of QEMU {own[0]}.{own[1]}: what QEMU {there[0]}.{there[1]} does otherwise is told as a new difference")
+        f"this is QEMU {there[0]}.{there[1]}, and the list of known differences is that of QEMU {own[0]}.{own[1]}: what QEMU {there[0]}.{there[1]} does otherwise is reported as a new difference")
     return Listed(os.path.join(folder, lists[own]), notice)

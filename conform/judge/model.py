@@ -38,7 +38,7 @@ class Step(NamedTuple):
 class Trace(NamedTuple):
     steps: List[Step]
     end: str  # empty, or what the model said when it ended at a faulty line
-    page: bytes = b""  # of IDENTIFY DEVICE, if the script has an `identify` and the program can tell
+    page: bytes = b""  # of IDENTIFY DEVICE, if the script has an `identify` and the program has it
 
 
 def commands_of(script: str) -> List["tuple[int, str]"]:
@@ -47,18 +47,18 @@ def commands_of(script: str) -> List["tuple[int, str]"]:
     return [(at, line) for at, line in enumerate(lines, 1) if line and not line.startswith("#")]
 
 
-def sent_of(told: Optional[Dict[str, Any]]) -> Optional[Sent]:
-    if told is None:
+def sent_of(parsed: Optional[Dict[str, Any]]) -> Optional[Sent]:
+    if parsed is None:
         return None
-    return Sent(bytes.fromhex(told["header"]), bytes.fromhex(told["cfis"]), [bytes.fromhex(it) for it in told["prdt"]])
+    return Sent(bytes.fromhex(parsed["header"]), bytes.fromhex(parsed["cfis"]), [bytes.fromhex(it) for it in parsed["prdt"]])
 
 
-def step_of(told: Dict[str, Any]) -> Step:
+def step_of(parsed: Dict[str, Any]) -> Step:
     return Step(
-        told["line"], told["command"], told["answer"], told["entries"], sent_of(told["sent"]),
-        {name: bytes.fromhex(text) for name, text in told["received"].items()},
-        {it["name"]: int(it["word"], 16) for it in told["registers"]},
-        {it["tag"]: it["phase"] for it in told["slots"]},
+        parsed["line"], parsed["command"], parsed["answer"], parsed["entries"], sent_of(parsed["sent"]),
+        {name: bytes.fromhex(text) for name, text in parsed["received"].items()},
+        {it["name"]: int(it["word"], 16) for it in parsed["registers"]},
+        {it["tag"]: it["phase"] for it in parsed["slots"]},
     )
 
 
@@ -67,9 +67,9 @@ def steps_of(trace: str) -> List[Step]:
     steps = []
     for number, text in enumerate(trace.splitlines(), 1):
         try:
-            told = json.loads(text)
-            if "fault" not in told:
-                steps.append(step_of(told))
+            parsed = json.loads(text)
+            if "fault" not in parsed:
+                steps.append(step_of(parsed))
         except (ValueError, KeyError, TypeError) as why:
             raise ModelFault(f"line {number} of the model's trace can't be read: {type(why).__name__} {why}") from why
     return steps

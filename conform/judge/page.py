@@ -19,7 +19,7 @@ the FISes and their bytes, the data, the scatter lists and the sectors are those
 else was found.
 
 Each difference has the smallest script that shows it, by its last line. `conform/ahci_conform --without NAME
-conform/qemu/NAME.ahci` tells it as a new one, with what was expected and what was got.
+conform/qemu/NAME.ahci` reports it as a new one, with what was expected and what was got.
 
 ## At a glance
 

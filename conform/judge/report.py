@@ -47,7 +47,7 @@ def one(step: Step, it: Difference) -> List[str]:
     return lines + ([f"    note      {it.note}"] if it.note else []) + excused(it)
 
 
-def told(step: Step, new: List[Difference]) -> List[str]:
+def difference_lines(step: Step, new: List[Difference]) -> List[str]:
     """Each place; of many sectors, words of the identify page, or blocks of memory the first ones, and the numbers of the others."""
     groups: Dict[str, List[Difference]] = {}
     for at, it in enumerate(new):
@@ -67,7 +67,7 @@ def differences_text(judged: Judged) -> List[str]:
     """The new differences of a script, as a table of places, and the model's trace around them."""
     step = judged.trace.steps[judged.step]
     lines = [f"{judged.name}, line {step.number}: {step.line[:80]} ({places(judged)})", f"the model's answer: {step.answer[:80]}", ""]
-    lines += told(step, judged.new)
+    lines += difference_lines(step, judged.new)
     lines += ["", f"The model's trace around it (> is the line at which {judged.title} differs):"]
     for at in range(max(0, judged.step - AROUND), min(len(judged.trace.steps), judged.step + 2)):
         lines += step_lines(judged.trace.steps[at], ">" if at == judged.step else " ")

@@ -1,4 +1,4 @@
-"""The command line: what is wrong is told in one line, with its own status."""
+"""The command line: what is wrong is reported in one line, with its own status."""
 import json
 import os
 import re
@@ -22,7 +22,7 @@ SERVED = "disk 1 1\nread 0 0 1\naccept 0\nserve 0\n"
 
 class Words(unittest.TestCase):
     def test_a_wrong_word_is_told_in_one_line_with_status_2(self) -> None:
-        for words, told in (
+        for words, reported in (
             ((), "SCRIPT or --seed is missing"), (("--seed", "5-1"), "'5-1' names no seeds"), (("--emulator", "mine", "-"), "there is no emulator 'mine'"),
             (("--emulator", "no.py:Mine", "-"), "there is no adapter no.py"), (("nowhere.ahci",), "nowhere.ahci can't be read: No such file"),
             (("--known", "no.json", "-"), "no.json can't be read: No such file"), (("--model", "/no/ahci", "-"), "the model, /no/ahci, can't be run"),
@@ -31,7 +31,7 @@ class Words(unittest.TestCase):
         ):
             status, out, err = run(*words)
             self.assertEqual((status, out, err.count("\n")), (2, "", 1), words)
-            self.assertIn(f"ahci_conform: {told}", err)
+            self.assertIn(f"ahci_conform: {reported}", err)
 
     def test_the_help_has_statuses_and_examples(self) -> None:
         status, out, _ = run("--help")
@@ -162,12 +162,12 @@ class Known(unittest.TestCase):
         self.assertEqual(self.judge("--known", self.known, "--shown", folder)[:2], (0, "1 known differences, 0 faults\n"))
 
     def test_a_list_that_is_not_shown_has_status_1(self) -> None:
-        for script, told in (
+        for script, reported in (
             ("disk 1 1\nread 0 0 1\naccept 0\n", "silent: its script doesn't show it"),
             (SERVED + "collect 0 0\n", "silent: line 4 of its script shows it before the last line does"),
         ):
             folder = os.path.dirname(self.file("scripts/silent.ahci", script))
-            self.assertEqual(self.judge("--known", self.known, "--shown", folder)[:2], (1, f"{told}\n1 known differences, 1 faults\n"))
+            self.assertEqual(self.judge("--known", self.known, "--shown", folder)[:2], (1, f"{reported}\n1 known differences, 1 faults\n"))
         status, out, _ = self.judge("--known", self.known, "--shown", os.path.join(self.room, "nowhere"))
         self.assertEqual((status, out.splitlines()[-1]), (1, "1 known differences, 1 faults"))
 

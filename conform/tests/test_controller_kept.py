@@ -63,12 +63,12 @@ class Judged(unittest.TestCase):
             fault = ["--controller", "--emulator", "stand-in", "--fault", "no_sdbs", "--seed", "1-20", "--quiet"]
             self.assertEqual(0, cli.main([*fault, "--record", path]))
             self.assertEqual(f"{path}: 20 programs\n", said.getvalue())
-            told = []
+            reported = []
             for words in ([*fault, "--go-on", "--json"], ["--controller", "--recorded", path, "--go-on", "--json"]):
                 said.truncate(said.seek(0))
                 self.assertEqual(1, cli.main(words))
-                told.append(said.getvalue())
-        self.assertEqual(told[0], told[1])
+                reported.append(said.getvalue())
+        self.assertEqual(reported[0], reported[1])
 
     def test_what_cannot_be_with_recordings_is_refused(self) -> None:
         for words in (["--recorded", "here", "--seed", "1"], ["--emulator", "vfio"], ["--function", "0000:00:1f.2", "--seed", "1"], ["--recorded", "/nowhere/here"]):

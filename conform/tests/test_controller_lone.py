@@ -1,4 +1,4 @@
-"""The model alone: a rule that it breaks is told, and so is a program at which its process ends."""
+"""The model alone: a rule that it breaks is reported, and so is a program at which its process ends."""
 import os
 import unittest
 from typing import List
@@ -40,8 +40,8 @@ class Lone(unittest.TestCase):
         faulty.start()
         broken = [it for given in programs("good", 20) for it in lone.played(faulty, given)]
         self.assertEqual({RULE}, {it.rule for it in broken})
-        told = list(lone.table([lone.Played(20, 500, broken)]))
-        self.assertRegex(told[0], f"good [0-9]+, operation [0-9]+: .*: the model breaks the rule: {RULE} \\(AHCI 1.3.1, section 3.1.2, 10.7\\)")
+        reported = list(lone.table([lone.Played(20, 500, broken)]))
+        self.assertRegex(reported[0], f"good [0-9]+, operation [0-9]+: .*: the model breaks the rule: {RULE} \\(AHCI 1.3.1, section 3.1.2, 10.7\\)")
 
     def test_a_process_that_ends_names_its_program(self) -> None:
         with mock.patch.object(lone, "_model", Ends()), self.assertRaisesRegex(EmulatorFault, "the library has ended a process, at one of these programs: good 1$"):

@@ -33,7 +33,7 @@ class Faults(unittest.TestCase):
         return str(caught.exception)
 
     def test_each_exception_is_told_with_script_and_line(self) -> None:
-        for name, why, told in (
+        for name, why, reported in (
             ("start", OSError(2, "No such file"), "queue, line 5 (disk 1000 32): the adapter's start has ended with FileNotFoundError: [Errno 2] No such file"),
             ("write_places", BrokenPipeError(), "queue, line 8 (read 0 0 1): the adapter's write_places has ended with BrokenPipeError"),
             ("complete", KeyError("what"), "queue, line 33 (serve 0): the adapter's complete has ended with KeyError: 'what'"),
@@ -42,7 +42,7 @@ class Faults(unittest.TestCase):
             ("__init__", RuntimeError("no display"), "queue: the adapter's constructor has ended with RuntimeError: no display"),
             ("stop", RuntimeError("no"), "the adapter's stop has ended with RuntimeError: no"),
         ):
-            self.assertIn(told, self.fault(broken(name, raises(why))))
+            self.assertIn(reported, self.fault(broken(name, raises(why))))
 
     def test_the_first_fault_is_told_where_the_end_fails_too(self) -> None:
         made = type("It", (Broken,), {"start": raises(OSError("first")), "stop": raises(OSError("second"))})
@@ -56,7 +56,7 @@ class Faults(unittest.TestCase):
         self.assertIn("the adapter's attribute `sectors` is int and hides its method of that name", self.fault(broken("__init__", begun)))
 
     def test_answers_of_another_type_or_length_are_told(self) -> None:
-        for name, answer, told in (
+        for name, answer, reported in (
             ("read_register", None, "the adapter's read_register answers NoneType and not int"),
             ("read_register", 1 << 32, "the adapter's read_register answers 100000000h, which is no word of 32 bits"),
             ("read_registers", [1], "the adapter's read_registers answers 1 and not 18 values"),
@@ -64,16 +64,16 @@ class Faults(unittest.TestCase):
             ("read_places", [b""], "the adapter's read_places answers"),
             ("sectors", b"", "the adapter's sectors answers 0 and not"),
         ):
-            self.assertIn(told, self.fault(broken(name, lambda *_, answer=answer: answer)))
+            self.assertIn(reported, self.fault(broken(name, lambda *_, answer=answer: answer)))
 
     def test_memory_that_cannot_be_is_told(self) -> None:
-        for memory, told in (
+        for memory, reported in (
             (5, "the adapter's `guest_memory` is no list of addresses and lengths"),
             ([(0x100000, 0)], "the adapter's `guest_memory` has a place at 100000h that overlaps another, or has no bytes"),
             ([(0x100000, 0x1000), (0x100800, 0x1000)], "a place at 100800h that overlaps another"),
             ([(0, 0x100000)], "a place at 0h in 10000h to 203ffh, which the tool uses for other things"),
         ):
-            self.assertIn(told, self.fault(broken("guest_memory", memory)))
+            self.assertIn(reported, self.fault(broken("guest_memory", memory)))
         self.assertIn("the adapter's `most_entries` is 7, and not 64 to 65,535", self.fault(broken("most_entries", 7)))
 
 

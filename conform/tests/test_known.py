@@ -54,7 +54,7 @@ class Reading(unittest.TestCase):
         return str(caught.exception)
 
     def test_a_fault_names_the_entry_and_the_member(self) -> None:
-        for given, told in (
+        for given, reported in (
             ("{", "list.json: Expecting property name"),
             ("[]", "list.json is no object"),
             ('{"title": "it"}', "list.json has no 'differences'"),
@@ -70,7 +70,7 @@ class Reading(unittest.TestCase):
             (text(covers=[{"place": "PxIS", "bits": "0000"}]), "no bit of 'bits' is 1"),
             (json.dumps({"title": "it", "differences": [ENTRY, ENTRY]}), "two differences are named one"),
         ):
-            self.assertIn(told, self.fault(given))
+            self.assertIn(reported, self.fault(given))
 
     def test_a_list_may_have_no_differences_and_nothing_beside(self) -> None:
         for given in ('{"title": "it", "differences": []}', '{"title": "it", "differences": [], "beside": []}'):

@@ -1,4 +1,4 @@
-"""What is told where QEMU can't be run, dies or hangs; and that no process is left."""
+"""What is reported where QEMU can't be run, dies or hangs; and that no process is left."""
 import os
 import stat
 import subprocess
@@ -15,7 +15,7 @@ from tests.common import needs_qemu
 
 class Programs(unittest.TestCase):
     def fault(self, body: str) -> str:
-        """What is told of a program in QEMU's place."""
+        """What is reported of a program in QEMU's place."""
         with tempfile.TemporaryDirectory() as folder:
             path = os.path.join(folder, "qemu")
             with open(path, "w", encoding="ascii") as out:

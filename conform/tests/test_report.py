@@ -6,7 +6,7 @@ from judge.differences import Difference, differs
 from judge.judge import Judged, judge
 from judge.known import NOTHING, known_of
 from judge.model import Step
-from judge.report import differences_text, told
+from judge.report import difference_lines, differences_text
 from judge.shape import spans, value
 from stand_in.faults import named
 from stand_in.port import StandIn
@@ -20,7 +20,7 @@ def difference(place: str, expected: bytes, got: bytes, note: str = "") -> Diffe
 
 
 def text(*them: Difference) -> List[str]:
-    return [line.strip() for line in told(SERVE, list(them))]
+    return [line.strip() for line in difference_lines(SERVE, list(them))]
 
 
 class Blocks(unittest.TestCase):
