@@ -7,12 +7,13 @@
 #include "say.h"
 
 #include <inttypes.h>
+#include <stdio.h>
 #include <stdlib.h>
 #include <time.h>
 
 #define WRITE_UNCORRECTABLE_EXT 0x45
 #define SECOND UINT64_C(1000000000)
-#define RETRY UINT64_C(10000000) /* nanoseconds until a step that got no memory is tried again */
+#define RETRY_MILLISECONDS 10 /* until a step that got no memory is tried again */
 
 uint64_t device_now(void) {
     struct timespec it;
@@ -32,12 +33,27 @@ void device_look(struct device *device) {
     provoke_signature(device);
 }
 
+/* Says once what the device does without memory. */
+static void say_starved(const struct device *device) {
+    char most[32] = "";
+    if (device->settings->memory_wait)
+        snprintf(most, sizeof most, ", for %" PRIu32 " s at most", device->settings->memory_wait);
+    note("there is no memory; the device tries again every %d ms%s", RETRY_MILLISECONDS, most);
+}
+
 void device_starve(struct device *device) {
+    const uint64_t now = device_now(), most = SECOND * device->settings->memory_wait;
     if (!device->starved)
-        say("there is no memory; the device waits for it");
+        say_starved(device);
+    if (!device->starves_since)
+        device->starves_since = now;
+    if (most && !device->gives_up && now - device->starves_since >= most) {
+        say("there has been no memory for %" PRIu32 " s, and the program ends", device->settings->memory_wait);
+        device->gives_up = true;
+    }
     device->starved = true;
     device->wait = WAIT_MEMORY;
-    device->due = device_now() + RETRY;
+    device->due = now + RETRY_MILLISECONDS * (SECOND / 1000);
 }
 
 /* ---- which step ---- */
@@ -255,7 +271,8 @@ void device_turn(struct device *device) {
     else if (choose(device, &slot))
         go_on(device, slot);
     device_look(device);
-    move(device);
+    if (move(device) && device->wait != WAIT_MEMORY)
+        device->starves_since = 0;
 }
 
 /* When the next step is due, in nanoseconds of CLOCK_MONOTONIC; UINT64_MAX if there is none. */

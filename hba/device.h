@@ -66,6 +66,8 @@ struct device {
     enum wait wait;
     uint64_t due;     /* until when, in nanoseconds of CLOCK_MONOTONIC */
     bool starved;     /* memory was refused once, and this was said */
+    uint64_t starves_since; /* when the turn was that got no memory first, with none that did since; or 0 */
+    bool gives_up;    /* that is too long ago, and the program ends */
     uint8_t *buffer;  /* for a run of the guest's memory */
     size_t room;
 };

@@ -124,9 +124,9 @@ static enum found go_round(struct pci *pci, const struct transport *transport, e
 
 int loop_run(struct pci *pci, struct transport transport) {
     enum found found = FOUND_NOTHING;
-    while (!stopped && !child_changed && !is_end(found))
+    while (!stopped && !child_changed && !is_end(found) && !pci->device->gives_up)
         found = go_round(pci, &transport, found);
-    return found == FOUND_WRONG ? -1 : 0;
+    return found == FOUND_WRONG || pci->device->gives_up ? -1 : 0;
 }
 
 void loop_finish(struct pci *pci, struct transport transport, unsigned seconds) {

@@ -89,7 +89,7 @@ static int run_by_vfio_user(const struct settings *settings, struct device *devi
     else
         run_print_arguments(it.place.path);
     bool has_failed = child < 0 || loop_run(&pci, vfio_user_transport(&it));
-    if (child > 0 && loop_is_stopped()) { /* QEMU has messages to be answered still when it ends */
+    if (child > 0 && (loop_is_stopped() || device->gives_up)) { /* QEMU has messages to be answered still when it ends */
         kill(child, SIGTERM);
         loop_finish(&pci, vfio_user_transport(&it), GRACE);
     }
@@ -143,12 +143,7 @@ static int run(struct settings *settings) {
     return broken ? 3 : 0;
 }
 
-/* A line of the script that never happened. */
-static void note(const char *line) {
-    say("%s", line);
-}
-
-static const struct voice voice = {.put = log_complaint, .before = "--", .between = " "};
+static const struct voice voice = {.put = log_complaint, .note = log_complaint, .before = "--", .between = " "};
 
 /* The journal takes and frees the bytes of every write: the process keeps freed memory, and no page of it comes and goes. */
 static void keep_memory(void) {
@@ -166,7 +161,7 @@ int main(int count, char **words) {
     if (log_begin(settings.log))
         return 1;
     int status = run(&settings);
-    script_end(settings.script, note);
+    script_end(settings.script, log_complaint);
     settings_end(&settings);
     if (log_end()) {
         say_of("log", settings.log, "it could not be written");

@@ -83,6 +83,8 @@ static const char help[] =
     "      --record-limit BYTES     The oldest half of the record is dropped so that it has no more bytes\n"
     "      --most-journal BYTES     The size of the queue's journal at which it is trimmed (default: 4 times the disk's size, at\n"
     "                               least 4M and at most 256M). BYTES may have a unit: 512K, 64M, 1G\n"
+    "      --memory-wait SECONDS    The program ends with status 1 if a step has got no memory for so long, 1 to 1000000; a step is tried\n"
+    "                               again every 10 ms (default: without end)\n"
     "      --log FILE               A line for each access of the guest\n"
     "      --judge                  Writes which rules of AHCI 1.3.1 the guest's driver breaks to standard error, as it breaks them,\n"
     "                               and a table at the end; then what it did about each event of the script, and what became of its\n"
@@ -100,6 +102,7 @@ static const char help[] =
 
 #define MOST_HOLD 1000000u /* microseconds */
 #define MOST_SLOW_READS 1000000
+#define MOST_MEMORY_WAIT 1000000 /* seconds */
 
 static int take_pick(const char *text, ahci_order *pick) {
     static const char *const words[] = {[AHCI_ORDER_LOWEST] = "low", [AHCI_ORDER_HIGHEST] = "high", [AHCI_ORDER_DRAWN] = "random", NULL};
@@ -199,6 +202,8 @@ static int take_one(struct settings *settings, const char *name, const char *val
         return take_sync(value, &settings->sync);
     if (!strcmp(name, "most-journal"))
         return option_bytes(name, value, &settings->most_journal);
+    if (!strcmp(name, "memory-wait"))
+        return option_small(name, value, 1, MOST_MEMORY_WAIT, &settings->memory_wait);
     if (!strcmp(name, "record-limit"))
         return option_bytes(name, value, &settings->record_limit);
     if (!strcmp(name, "judge-from"))
@@ -209,7 +214,7 @@ static int take_one(struct settings *settings, const char *name, const char *val
 /* Takes one option with its value. */
 static int take_option(struct settings *settings, const char *word, const char *value) {
     static const char *const names[] = {"sectors", "depth", "cap", "pick", "seed", "delay", "image", "sync", "most-journal", "record", "record-limit", "log",
-                                        "judge-from", "slow-bits", "json", "transport", "socket", "hold", "size", "script", "model", "serial", "firmware", "rpm"};
+                                        "judge-from", "slow-bits", "json", "transport", "socket", "hold", "size", "script", "model", "serial", "firmware", "rpm", "memory-wait"};
     const char *name = word + 2;
     enum event_kind rule = rules_kind(name, SERVER_HBA);
     if (rule != EVENT_KINDS)

@@ -40,6 +40,7 @@ struct settings {
     struct mapped mapped; /* a file with the disk's sectors */
     enum sync sync;
     uint64_t most_journal; /* bytes of the journal after which it is trimmed */
+    uint32_t memory_wait;  /* seconds without memory after which the program ends, or 0 */
     const char *record;    /* a folder for the record, or NULL */
     uint64_t record_limit; /* its bytes at most; 0: no limit */
     const char *log;       /* a file for a line of each access, or NULL */

@@ -157,7 +157,7 @@ int mapped_map(struct mapped *mapped) {
     madvise(at, mapped->length, MADV_RANDOM); /* else the first write of a page would read as much around it as the file's disk reads ahead */
     mapped->bytes = at;
     if (image->bytes % SECTOR_BYTES)
-        say_of("image", image->path, "%" PRIu64 " bytes are no whole sectors; the last one is filled up with zeros", image->bytes);
+        note_of("image", image->path, "%" PRIu64 " bytes are no whole sectors; the last one is filled up with zeros", image->bytes);
     return 0;
 }
 

@@ -254,14 +254,20 @@ void record_next_part(struct record *record) {
         give_up(record, "its next part can't be written");
 }
 
-/* Whether the folder has a record; -1 if it can't be read. */
-static int has_parts(const char *folder) {
+/* What a folder has. */
+enum content { CONTENT_NONE, CONTENT_FILES, CONTENT_RECORD };
+
+/* The content of a folder; -1 if it can't be read. */
+static int content_of(const char *folder) {
     DIR *found = opendir(folder);
-    int has = 0;
+    int has = CONTENT_NONE;
     if (!found)
         return -1;
-    for (struct dirent *it = readdir(found); it && !has; it = readdir(found))
-        has = !strncmp(it->d_name, "part.", 5);
+    for (struct dirent *it = readdir(found); it && has != CONTENT_RECORD; it = readdir(found))
+        if (!strncmp(it->d_name, "part.", 5))
+            has = CONTENT_RECORD;
+        else if (strcmp(it->d_name, ".") && strcmp(it->d_name, ".."))
+            has = CONTENT_FILES;
     closedir(found);
     return has;
 }
@@ -284,12 +290,12 @@ int record_begin(struct record *record, const char *folder, uint64_t limit, cons
     *record = (struct record){.folder = folder, .limit = limit, .file = -1, .disk = *disk, .depth = depth};
     if (!folder)
         return 0;
-    int has = mkdir(folder, 0777) && errno != EEXIST ? -1 : has_parts(folder);
-    if (has > 0) {
-        say_of("record", folder, "the folder has a record already; remove it, or name another folder");
+    int has = mkdir(folder, 0777) && errno != EEXIST ? -1 : content_of(folder);
+    if (has == CONTENT_RECORD || has == CONTENT_FILES) {
+        say_of("record", folder, has == CONTENT_RECORD ? "the folder has a record already; remove it, or name another folder" : "the folder has other files; name an empty one, or one that isn't there");
         return -1;
     }
-    if (!has && !take_memory(record) && !begin_part(record))
+    if (has == CONTENT_NONE && !take_memory(record) && !begin_part(record))
         return 0;
     say_of("record", folder, "%m");
     close_part(record);

@@ -37,6 +37,24 @@ void say_of(const char *name, const char *value, const char *format, ...) {
     say("%s%s%s%s: %s", voice.before, name, voice.between, value, text);
 }
 
+void note(const char *format, ...) {
+    char text[MOST_LINE];
+    va_list rest;
+    va_start(rest, format);
+    spell(text, format, rest, errno);
+    va_end(rest);
+    voice.note(text);
+}
+
+void note_of(const char *name, const char *value, const char *format, ...) {
+    char text[MOST_LINE];
+    va_list rest;
+    va_start(rest, format);
+    spell(text, format, rest, errno);
+    va_end(rest);
+    note("%s%s%s%s: %s", voice.before, name, voice.between, value, text);
+}
+
 void say_expected(const char *name, const char *value, const char *format, ...) {
     char text[MOST_LINE];
     va_list rest;

@@ -247,7 +247,7 @@ static uint32_t recover(struct driver *driver) {
     bool is_said = false;
     while ((status = ahci_port_recover(&driver->port, &tag)) == AHCI_OUT_OF_MEMORY) {
         if (!is_said)
-            say("no memory for the recovery from a failure; it is tried again");
+            note("no memory for the recovery from a failure; it is tried again");
         is_said = true;
         nanosleep(&wait, NULL);
     }

@@ -30,7 +30,12 @@ static void put(const char *line) {
     nbdkit_error("%s", line);
 }
 
-static const struct voice voice = {.put = put, .before = "", .between = "="};
+/* One that is no fault: what it does without memory, or of the image, or a line of the script that never happened. */
+static void put_note(const char *line) {
+    fprintf(stderr, "ahci: %s\n", line);
+}
+
+static const struct voice voice = {.put = put, .note = put_note, .before = "", .between = "="};
 
 /* The port's journal takes and frees the bytes of every write. This keeps freed memory in the process: without it most of the time goes to
    pages that come and go. */
@@ -66,18 +71,13 @@ static int ahci_after_fork(void) {
     return has_device ? 0 : -1;
 }
 
-/* A line of the script that never happened. */
-static void note(const char *line) {
-    fprintf(stderr, "ahci: %s\n", line);
-}
-
 /* nbdkit has answered every request by now. */
 static void ahci_cleanup(void) {
     if (has_device)
         device_end(&driver, thread);
     if (!has_port)
         return;
-    script_end(settings.script, note);
+    script_end(settings.script, put_note);
     const struct counts *it = &driver.counts;
     fprintf(stderr,
             "ahci: %" PRIu64 " commands, %" PRIu64 " served, %" PRIu64 " of them out of order, %" PRIu64 " lists of several tags, %" PRIu32

@@ -196,11 +196,14 @@ def wrong_peer(room: str) -> str:
     return f"{len(cases)} peers"
 
 
+STARVES = "ahci-hba: there is no memory; the device tries again every 10 ms"
+
+
 def refused_memory(room: str) -> str:
     """One request for memory in forty is refused: the device waits and goes on, and nothing is lost."""
     image = blank(room, 32768)
     guest = Guest(room, ["--image", image], linux(room, "memory"), binary=STARVED)
-    guest.end(240, said="ahci-hba: there is no memory; the device waits for it\n")
+    guest.end(240, said=f"{STARVES}\n")
     guest.linux_is_usual()
     told = guest.told()
     expect(bool(re.fullmatch(r"requests 4000 compared [1-9]\d* errors 0 wrong 0", told["small"])), f"small: {told['small']}")
@@ -215,12 +218,22 @@ def failed_reads(room: str) -> str:
     with open(image, "wb") as file:
         file.write(b"".join(struct.pack("<Q", lba) * (SECTOR // 8) for lba in range(64)))
     wanted = [f"{code}: 5 sectors, PRDBC {counted}, error 40 at 21: 200" for code, counted in (("20h", 5 * SECTOR), ("60h", 0), ("C8h", 5 * SECTOR))]
-    for binary, said in ((PROGRAM, ""), (STARVED, "ahci-hba: there is no memory; the device waits for it\n")):
+    for binary, said in ((PROGRAM, ""), (STARVED, f"{STARVES}\n")):
         words = [binary, "run", "--transport", way_of(room), "--image", image, "--fail", "21-63:40:ever,reads", "--", READER, "16", "600"]
         done = pace.ran(words, 120, stdout=subprocess.PIPE, stderr=subprocess.PIPE, text=True)
         expect(done.returncode == 0 and done.stderr == said, f"status {done.returncode}: {done.stderr}")
         expect(done.stdout.split("\n")[:-1] == wanted, f"{os.path.basename(binary)}: the reads came to {done.stdout}")
     return "1,200 reads moved five sectors and failed at the sixth"
+
+
+def given_up(room: str) -> str:
+    """No request for memory is granted any more: with --memory-wait the program ends, and says so."""
+    image = blank(room, 64)
+    words = [STARVED, "run", "--transport", way_of(room), "--image", image, "--memory-wait", "2", "--", READER, "16", "600"]
+    done = pace.ran(words, 120, env={**os.environ, "STARVES": "1"}, stdout=subprocess.PIPE, stderr=subprocess.PIPE, text=True)
+    expect(done.returncode == 1 and done.stderr == f"{STARVES}, for 2 s at most\nahci-hba: there has been no memory for 2 s, and the program ends\n",
+           f"status {done.returncode}: {done.stderr}")
+    return "status 1, and it is said"
 
 
 def killed_guest(room: str) -> str:
@@ -341,6 +354,6 @@ def large(room: str) -> str:
 
 
 CHECKS = [Check(command_lines, title="Command lines"), Check(arguments, title="Arguments of QEMU"), Check(versions, title="Versions of QEMU"), Check(record, title="Record of Linux"), Check(garbage, title="Garbage"), Check(wrong_peer, title="A peer of the proxy that is wrong"),
-          Check(refused_memory, title="Refused memory"), Check(failed_reads, title="Reads that fail"), Check(killed_guest, title="A killed guest"), Check(unkept, title="A flush that can't be kept"),
+          Check(refused_memory, title="Refused memory"), Check(given_up, title="Memory that never comes"), Check(failed_reads, title="Reads that fail"), Check(killed_guest, title="A killed guest"), Check(unkept, title="A flush that can't be kept"),
           Check(written_at_the_end, title="An image that is written at the end"), Check(full, title="Files that can't be written"), Check(rules, title="Rules"), Check(much_written, title="Much that is written"), Check(large, title="A disk of 2 TiB"),
           Check(very_much_written, title="10 GiB that are written", is_long=True)]

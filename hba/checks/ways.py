@@ -27,7 +27,7 @@ WITHOUT = ["Command lines", "Arguments of QEMU", "Files that can't be written", 
            "Power losses that can't be", "Recoveries, step by step", "Recoveries, steps that are left out", "Recoveries, answers", "Recoveries, two events", "Outcomes that are refused", "Linux and each script that is shipped",
            "Complaints of the tools", "Another disk, step by step", "Other disks that can't be"]
 # these have a driver of our own instead of a QEMU
-BARE = ["Garbage", "Reads that fail", "Rules", "Much that is written", "A disk of 2 TiB", "10 GiB that are written", "A limit of the record", "A limit of a slow record",
+BARE = ["Garbage", "Memory that never comes", "Reads that fail", "Rules", "Much that is written", "A disk of 2 TiB", "10 GiB that are written", "A limit of the record", "A limit of a slow record",
         "A kill after an answer", "A kill after an answer, with a slow record", "A slow record", "A record without room", "The judge, faults of a driver",
         "The judge, drivers without a fault", "The judge, from a stretch on", "Power losses, with a cache", "Power losses, without a cache", "Power losses, a large disk", "Power losses that are wrong", "Power losses and a kill", "Power losses without an image that can be written",
         "Power losses, 2,000"]

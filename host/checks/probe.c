@@ -278,7 +278,7 @@ static int try_record(char **words) {
 }
 
 int main(int count, char **words) {
-    static const struct voice voice = {.put = put, .before = "--", .between = " "};
+    static const struct voice voice = {.put = put, .note = put, .before = "--", .between = " "};
     const char *what = count > 1 ? words[1] : "";
     say_begin(&voice);
     if (!strcmp(what, "numbers"))

@@ -172,7 +172,7 @@ static void meet(const struct line *line) {
 /* Mutates lines of a script, parses them, and judges each as `is_kept` does; one that is refused is refused by one message, which names the place. It prints
    how many were accepted and how many refused. */
 int try_fuzz(char **words) {
-    static const struct voice quiet = {.put = listen, .before = "--", .between = " "};
+    static const struct voice quiet = {.put = listen, .note = listen, .before = "--", .between = " "};
     static struct line line;
     char text[ROOM];
     unsigned long accepted = 0, count = strtoul(words[1], NULL, 10);

@@ -285,17 +285,18 @@ def stretch_words(room: str) -> str:
 
 
 def folders(room: str) -> str:
-    """A record needs a folder of its own: one that has a record, a file, and one whose parent is not there are refused."""
+    """A record needs a folder of its own: one that has a record, one that has other files, a file, and one whose parent is not there are refused."""
     folder, file = os.path.join(room, "record"), os.path.join(room, "file")
     expect(Probe(["record", folder, "0", "8"]).end() == 0, "the first record was refused")
     expect(sectors_of(folder) == bytes(8 * SECTOR), "a record without entries has no sectors")
     with open(file, "wb"):
         pass
-    for path, says in ((folder, "the folder has a record already; remove it, or name another folder"), (file, "Not a directory"), (f"{room}/no/record", "No such file or directory")):
+    for path, says in ((folder, "the folder has a record already; remove it, or name another folder"),
+                       (room, "the folder has other files; name an empty one, or one that isn't there"), (file, "Not a directory"), (f"{room}/no/record", "No such file or directory")):
         probe = Probe(["record", path, "0", "8"])
         said = probe.answer()
         expect(said == f"said --record {path}: {says}" and probe.end() == 1, said)
-    return "three are refused"
+    return "four are refused"
 
 
 def a_long_script(room: str) -> str:
