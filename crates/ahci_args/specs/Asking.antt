@@ -11,13 +11,13 @@ use Rattle.ahci_args.specs.declared.request.Asked.{Asked}
 use Rattle.ahci_args.specs.declared.request.Asked.TheVariants.{Replay, Run, Identify, Log, Trace, Check, Draw}
 use Rattle.ahci_args.specs.declared.run_form.RunForm.{RunForm}
 
--- after the program's name stands `replay` alone, or with the `--` that ends the options
+-- after the program's name is `replay` alone, or with the `--` that ends the options
 abbrev pub AsksReplay : List Text → Type 0
 AsksReplay words = (drop 1 words ≡ codes "replay" ∷ []) ⊎ (drop 1 words ≡ codes "replay" ∷ codes "--" ∷ [])
 
 -- ---- the options of the others
 
--- of the options that the parser has found, `name` has a number from `first` to `last`, and this is it; a plus may stand
+-- of the options that the parser has found, `name` has a number from `first` to `last`, and this is it; a plus may come
 -- before its digits
 pub record HasNumber (options : List Row) (name : Text) (first last n : ℕ) : Type 0 where
   pub text : Text
@@ -160,7 +160,7 @@ IsOf name options asked = (name ≡ name_of asked) × Says options asked
 
 -- ---- the whole line
 
--- after the program's name stands the subcommand, and the parser has found options after it that say this
+-- after the program's name is the subcommand, and the parser has found options after it that say this
 pub record Asks (words : List Text) (asked : Asked) : Type 0 where
   pub picks : PickWords
   pub options : List Row

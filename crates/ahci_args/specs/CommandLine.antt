@@ -61,7 +61,7 @@ flag name = record (new_rule name) {
   action = Some SetTrue;
 }
 
--- the words that `--pick` takes; where they stand in memory says nothing
+-- the words that `--pick` takes; their places in memory say nothing
 pub record PickWords : Type 0 where
   pub words : Bor (List (Bor Text))
   pub are : map (λ word. word.now) words.now ≡ codes "low" ∷ codes "high" ∷ codes "all" ∷ []
@@ -135,7 +135,7 @@ top = record (new_app (codes "ahci")).top { has_version = true; subcommand_requi
 abbrev pub ahci : PickWords → App
 ahci picks = fold with_subcommand (record { top = top; subs = [] }) (replay ∷ trace ∷ check ∷ draw ∷ run picks ∷ identify ∷ log ∷ [])
 
--- what the parser has been told
+-- what the parser has been given
 abbrev pub IsPickOption : Rule → Type 0
 IsPickOption rule = (picks : PickWords) × (rule ≡ pick_option picks)
 

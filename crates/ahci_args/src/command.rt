@@ -1,4 +1,4 @@
-//! The command line, as its parser is told of it.
+//! The command line, as its parser takes it.
 ghost use Rattle.std.specs.Prelude.{◌≡◌, [], IfErr, IfOk, false, map, pos};
 ghost use Rattle.clap.specs.Words.{app_of, kind_of, rule_of};
 ghost use Rattle.ahci_args.specs.CommandLine.{AreLocal, IsAhci, IsPickOption, IsSubcommand, PickWords, bound_option, check, draw, error_option, flag, identify, index_option, log, number_option, replay, run, top, trace, with_options};

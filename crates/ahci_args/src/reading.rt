@@ -187,7 +187,7 @@ fn flag(options: &ArgMatches<'_>, name: &str) -> bool
     options.get_flag(name)
 }
 
-/// A usage fault of a subcommand, which the name stands for in the usage.
+/// A usage fault of a subcommand, whose name the usage has.
 fn usage_fault<'a>(
     command: Command<'a>,
     name: &'a str,

@@ -6,7 +6,7 @@ use crate::run_form::RunForm;
 pub enum Asked {
     /// `ahci replay`: run the script on standard input.
     Replay,
-    /// `ahci trace`: run it, and tell what each command did to the port.
+    /// `ahci trace`: run it, and print what each command did to the port.
     Trace {
         /// One JSON object a line, and not the text.
         json: bool,

@@ -1,4 +1,4 @@
-//! The port for C: one export a call, over the place that C owns. What each call does stands in `ahci_ffi`; here the port is
+//! The port for C: one export a call, over the place that C owns. `ahci_ffi` says what each call does; here the port is
 //! taken out of its place, the call is made, and the port put back. `c/ahci.h` declares the same for C.
 #![tactic(auto, using(ahci_ffi::proofs::OverLemmas::none_changes, ahci_ffi::proofs::OverLemmas::none_reads, ahci_ffi::proofs::OverLemmas::none_supersedes, ahci_ffi::proofs::OverLemmas::none_writes, ahci_ffi::proofs::OverLemmas::some_changes, ahci_ffi::proofs::OverLemmas::some_reads, ahci_ffi::proofs::OverLemmas::some_supersedes, ahci_ffi::proofs::OverLemmas::some_writes))]
 

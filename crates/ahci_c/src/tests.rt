@@ -1,5 +1,5 @@
 //! Each export that may ask for memory does what was asked where there is enough; its clause lets it lack memory at any time. No
-//! crate can stand on a static library, so these tests stand here.
+//! crate can use a static library, so these tests are here.
 use crate::alone::ahci_window_check;
 use crate::device::{ahci_port_accept, ahci_port_fail};
 use crate::making::{ahci_port_free, ahci_port_new, ahci_port_new_zeros, ahci_port_resume};

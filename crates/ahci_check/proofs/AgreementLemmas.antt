@@ -1,4 +1,4 @@
--- A line that replay takes stands for the check too, and both have a disk after it or neither.
+-- A line that replay takes is taken by the check too, and both have a disk after it or neither.
 use Rattle.std.proofs.Common.{◌≡◌, ℕ, suc, ◌+◌, ◌*◌, ◌/◌, ◌==◌, ◌||◌, Bool, true, false, cond, not, nat_lt, List, [], ◌∷◌, ◌++◌, Option, Some, None, Result, Ok, Err, is_none, is_some, length, option_and_then, refl, sym, ap, ◌∙◌, append-nil, arith}
 use Rattle.std.proofs.lemmas.Bool.{cond-false, cond-true}
 use Rattle.std.proofs.lemmas.List.{length-replicate}
@@ -39,7 +39,7 @@ use Rattle.ahci_script.specs.declared.line.ScriptCommand.TheVariants as command
 use Rattle.port_refusal.specs.declared.refusal.Refusal.{Refusal}
 use Rattle.ahci_check.specs.Agreement.{CheckAgrees, place_of}
 
--- ---- where a line may stand
+-- ---- where a line is allowed
 
 before : (c : ScriptCommand) → is_in_place BeforeDisk c ≡ replay.is_in_place None c
 before (command.Disk sectors depth first) = refl
@@ -72,7 +72,7 @@ stop_alike port number line =
 
 -- ---- the place after a line
 
--- the limits of a disk stand in the order of its refusals
+-- the limits of a disk come in the order of its refusals
 none_alike : {X : Type 0} (a b c d e : Bool) (v w x y z : Option X) (p q r : Refusal) → is_none v ≡ false → is_none w ≡ false → is_none x ≡ false → is_none y ≡ false → is_none z ≡ false
     → is_none (cond a v (cond b w (cond c x (cond d y (cond e z None))))) ≡ is_none (cond (a || b) (Some p) (cond (c || d) (Some q) (cond e (Some r) None)))
 none_alike true b c d e v w x y z p q r hv hw hx hy hz = hv
@@ -207,7 +207,7 @@ stand_alike telling port last lines text sheet number (one_more n same first l n
 
 -- ---- the first line at which replay ends
 
--- lines that replay has answered have no complaint that ends it: the first such one stands after them
+-- lines that replay has answered have no complaint that ends it: the first such one comes after them
 passed : (telling : Telling) (port last : Option PortView) (lines : List (List ℕ)) (text : List ℕ) (number : ℕ) (tail : List (List ℕ)) → Adds telling number port lines text last
     → first_wrong (place_of port) number (lines ++ tail) ≡ first_wrong (place_of last) (number + length lines) tail
 passed telling port last lines text number tail (no_line n same) = ap (λ n. first_wrong (place_of port) n tail) (omega arith)

@@ -1,4 +1,4 @@
--- What there is to say of a line: a complaint of the language stands exactly where the line may not.
+-- What there is to say of a line: a complaint of the language comes exactly where the line isn't allowed.
 use Rattle.std.proofs.Common.{◌≡◌, ℕ, ◌+◌, ◌-◌, Bool, true, false, cond, not, List, Option, Some, None, Result, Ok, Err, IfSome, length, option_map, refl, arith}
 use Rattle.std.specs.Result.{result_ok}
 use Rattle.ahci_script.specs.Lines.{reading}
@@ -19,7 +19,7 @@ of_placed place number line c b =
     cond b (option_map (λ (e : Excess). complaint_at number line e.left (Port e.limit)) (excess_in place line c))
     (Some (record { line = number; column = None; rule = Language (misplaced place) }))
 
--- a complaint of the language stands exactly where the line may not stand
+-- a complaint of the language comes exactly where the line isn't allowed
 pub complaint_agrees : (place : Place) (number : ℕ) (line : List ℕ) → ends_replay (complaint_in place number line) ≡ not (stands place line)
 complaint_agrees place number line = by (reading line)
   where

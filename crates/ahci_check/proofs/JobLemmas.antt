@@ -1,4 +1,4 @@
--- What there is to say of a job list's line: a complaint of the language stands exactly where the line is none.
+-- What there is to say of a job list's line: a complaint of the language comes exactly where the line is none.
 use Rattle.std.proofs.Common.{◌≡◌, ℕ, ◌+◌, ◌-◌, not, List, Option, Some, None, Result, Ok, Err, IfSome, length, is_some, refl, arith}
 use Rattle.std.specs.Result.{result_ok}
 use Rattle.ahci_script.specs.Jobs.{job_reading}

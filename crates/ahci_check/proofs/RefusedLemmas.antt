@@ -1,4 +1,4 @@
--- Every port on which a line may stand refuses it, where the line passes a limit of the port.
+-- Every port refuses a line, where the line passes a limit of the port.
 use Rattle.std.proofs.Common.{◌≡◌, ℕ, suc, ◌+◌, ◌≤◌, ◌<◌, ◌^◌, ◌==◌, ◌&&◌, ◌||◌, Bool, true, false, cond, List, [], ◌∷◌, ◌++◌, Option, Some, None, Result, Ok, Err, is_some, is_none, length, append_assoc, refl, sym, ap, ◌∙◌, subst, arith}
 use Rattle.std.specs.List.{list_any}
 use Rattle.std.specs.Option.{IsSomeAnd, option_map, option_or}
@@ -59,7 +59,7 @@ use Rattle.ahci_check.specs.declared.rule.Rule.TheVariants.{Language}
 abbrev Refuses : PortView → PortView → Said → Type 0
 Refuses port new said = (new ≡ port) × IsRefusal said
 
--- a refusal that stands is the answer
+-- a refusal that holds is the answer
 answered : (o : Option Refusal) (port new : PortView) (said : Said) (Done : Type 0) → is_some o ≡ true → RefusedOr o port new said Done → Refuses port new said
 answered None port new said Done some ran = absurd (let z : false ≡ true = some in cc)
 answered (Some refusal) port new said Done some ran = (ran.0, subst IsRefusal (sym ran.1) tt)
@@ -69,7 +69,7 @@ either : {T : Type 0} (a b : Option T) (e : T) → option_or a b ≡ Some e → 
 either None b e is = inr is
 either (Some x) b e is = inl is
 
--- what stands where a test holds
+-- what holds where a test does
 tested : {T : Type 0} (b : Bool) (x : Option T) (e : T) → cond b x None ≡ Some e → b ≡ true
 tested true x e is = refl
 tested false x e is = absurd (cc)
@@ -123,7 +123,7 @@ far_among port words (tag ∷ tags) e h is =
       | inr later ↦ both (is_accepted (phase port.past tag)) (are_accepted port.past tags) (far_among port (after_first words) tags e h later)
     ]
 
--- a tag stands in a list
+-- a tag is in a list
 stands_in : (b t : ℕ) (before tags : List ℕ) → nat_eq b t ≡ true → list_any (λ other. nat_eq other b) (before ++ t ∷ tags) ≡ true
 stands_in b t [] tags is = ap (λ x. x || list_any (λ other. nat_eq other b) tags) ((Decides-eqb t b).1 (sym (eqb-true b t is)))
 stands_in b t (x ∷ before) tags is = one_of (nat_eq x b) (list_any (λ other. nat_eq other b) (before ++ t ∷ tags)) (stands_in b t before tags is)

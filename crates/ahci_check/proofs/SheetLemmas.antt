@@ -1,4 +1,4 @@
--- Lemmas about what is told of lines, and how a check ends.
+-- Lemmas about what is reported of lines, and how a check ends.
 use Rattle.std.proofs.Common.{◌≡◌, ℕ, ◌+◌, ◌||◌, Bool, true, false, List, [], ◌∷◌, ◌++◌, Option, is_some, length, refl, sym, ap, ◌∙◌, subst, inl, inr, append_assoc, append-nil}
 use Rattle.std.proofs.KnownBytes.{Appends-nil, Appends-trans, Consumes-nil}
 use Rattle.std.specs.Io.KnownBytes.{Appends}
@@ -25,7 +25,7 @@ Known = Option (List ℕ)
 abbrev Lines : Type 0
 Lines = List (List ℕ)
 
--- ---- what is told between two stands
+-- ---- what is reported between two states
 
 abbrev made : Form → Judge → Bool → List ℕ → Sheet
 made form judge found text = record { form = form; judge = judge; found = found; text = text }
@@ -38,7 +38,7 @@ begun desk = made desk.form desk.judge desk.found desk.waiting
 abbrev after : List ℕ → Sheet → Sheet
 after text sheet = made sheet.form sheet.judge sheet.found (text ++ sheet.text)
 
--- a sheet is told, which begins with what waited, and some first part of it is written
+-- a sheet is reported, which begins with what waited, and some first part of it is written
 record Told (p : Stand) (sheet : Sheet) (q : Stand) : Type 0 where
   sends : Sends p.contents q.contents sheet.text q.desk.waiting
   form_is : q.desk.form ≡ sheet.form
@@ -60,11 +60,11 @@ after_all text sheet n [] = refl
 after_all text sheet n (line ∷ more) =
     ap (λ s. judged_from (n + 1) s more) (after_next text sheet n (whole line)) ∙ after_all text (with_next sheet n (whole line)) (n + 1) more
 
--- what comes is told
+-- what comes is reported
 step : (p q : Stand) (n : ℕ) (found : Begins) → Judges p n found q → Told p (with_next (begun p.desk) n found) q
 step p q n found h = record { sends = h.sends; form_is = h.form_same; judge_is = h.judge_is; found_is = h.found_is }
 
--- more is told
+-- more is reported
 more_told : (p q r : Stand) (sheet : Sheet) (F : Sheet → Sheet) → ((text : List ℕ) (s : Sheet) → F (after text s) ≡ after text (F s)) → Told p sheet q → Told q (F (begun q.desk)) r
     → Told p (F sheet) r
 more_told p q r sheet F moves h k =
@@ -82,7 +82,7 @@ more_told p q r sheet F moves h k =
       found_is = k.found_is;
     })
 
--- nothing was told
+-- nothing was reported
 nothing_told : (p : Stand) → Told p (begun p.desk) p
 nothing_told p = record { sends = record { sent = []; written = Appends-nil p.contents; said = refl }; form_is = refl; judge_is = refl; found_is = refl }
 
@@ -90,7 +90,7 @@ or_false : (b : Bool) → (b || false) ≡ b
 or_false true = refl
 or_false false = refl
 
--- before more input nothing is told
+-- before more input nothing is reported
 sent_before : (p q : Stand) (n : ℕ) → Judges p n unfinished q → Told p (begun p.desk) q
 sent_before p q n h = record {
   sends = subst (λ t. Sends p.contents q.contents t q.desk.waiting) (append-nil p.desk.waiting) h.sends;
@@ -132,7 +132,7 @@ put_failed c d old mid new complaint next is part failed = (subst (WritesPart c 
 
 -- ---- lines at the front of an input
 
--- how whoever takes the lines goes on, whose stands these are
+-- how whoever takes the lines goes on, whose states these are
 abbrev Goes : {S : Type 0} → (S → Stand) → Step S
 Goes f old number found new = Judges (f old) number found (f new)
 
@@ -210,7 +210,7 @@ nothing r Q holds = record { lines = []; rest = []; remaining = r; own = no_line
 pub nothing_checked : (form : Form) (judge : Judge) (r c : Known) → EndsCheck form judge r r c c OutOfMemory
 nothing_checked form judge r c = nothing r _ (refl, Appends-nil c)
 
--- nothing was told or written since
+-- nothing was reported or written since
 abbrev Stays : Stand → Stand → Type 0
 Stays p q = (q.contents ≡ p.contents) × (q.desk.waiting ≡ p.desk.waiting) × (q.desk.writes ≡ p.desk.writes)
 
@@ -238,7 +238,7 @@ no_more Read s lines remaining rest h = inr h
 no_more OutOfMemory s lines remaining rest h = inl h
 no_more Write s lines remaining rest h = absurd h
 
--- a fault but of the output: what was told is as it was
+-- a fault but of the output: what was reported stays as it was
 stopped_before : {S : Type 0} (f : S → Stand) (stop : Stopped CheckFault) (r s : Known) (a b : S) → is_of_output (fault_of stop) ≡ false → StopsReading (Goes f) (Fails f) r s a b stop
     → TakenFirst (Goes f) r a (λ lines remaining rest to. Stays (f to) (f b) × Why (fault_of stop) s lines remaining rest)
 stopped_before f stopped.Read r s a b other h = first_map _ _ r a (λ lines remaining rest to holds. (stays (f to) (f b) (ap f holds.2), (holds.0, holds.1))) h

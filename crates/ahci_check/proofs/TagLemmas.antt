@@ -41,7 +41,7 @@ far-later depth words tags i t excess low here is none =
 pub far-none : (depth : ℕ) (words tags : List ℕ) (i : ℕ) → length tags ≤ i → far_tag depth words (drop i tags) ≡ None
 far-none depth words tags i high = ap (far_tag depth words) (drop_of_length-le tags high)
 
--- the next tag stands among those before it
+-- the next tag is among those before it
 pub twice-here : (words tags : List ℕ) (i t : ℕ) (b : Bool) → i < length tags → t ≡ get_or tags i 0 → b ≡ list_any (λ other. nat_eq other t) (take i tags) → b ≡ true
     → twice_among (take i tags) words (drop i tags) ≡ excess_at words (limit.TagTwice t)
 twice-here words tags i t b low here is holds =

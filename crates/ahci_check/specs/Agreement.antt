@@ -8,7 +8,7 @@ use Rattle.ahci_check.specs.declared.place.Place.TheVariants.{BeforeDisk, AfterD
 use Rattle.ahci_port.specs.PortView.{PortView, sectors_in}
 use Rattle.ahci_replay.specs.Transcript.{Adds, Telling, placed}
 
--- where a line stands that finds this port, or none: the port says how many sectors and slots there are
+-- the place of a line that finds this port, or none: the port says how many sectors and slots there are
 abbrev pub place_of : Option PortView → Place
 place_of None = BeforeDisk
 place_of (Some port) = AfterDisk (sectors_in port) port.depth
@@ -17,7 +17,7 @@ place_of (Some port) = AfterDisk (sectors_in port) port.depth
 abbrev pub StopAlike : Type 0
 StopAlike = (port : Option PortView) (number : ℕ) (line : List ℕ) → ends_replay (complaint_in (place_of port) number line) ≡ is_none (placed port line)
 
--- after lines that replay has answered, the check's next line stands where replay's does
+-- after lines that replay has answered, the check's next line has the place that replay's has
 abbrev pub StandAlike : Type 0
 StandAlike = (telling : Telling) (port last : Option PortView) (lines : List (List ℕ)) (text : List ℕ) (sheet : Sheet) (number : ℕ)
     → Adds telling number port lines text last → sheet.judge ≡ OfScript (place_of port) → (judged_from number sheet lines).judge ≡ OfScript (place_of last)

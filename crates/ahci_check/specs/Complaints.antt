@@ -1,4 +1,4 @@
--- What there is to say of a line, and which disk stands before the next.
+-- What there is to say of a line, and which disk is before the next.
 use Rattle.std.specs.Prelude.{ℕ, ◌+◌, ◌-◌, ◌≤◌, Bool, true, false, List, [], ◌∷◌, Option, Some, None, Result, Ok, Err, option_map, is_none, length, if◌then◌else◌}
 use Rattle.ahci_script.specs.Lines.{line_of, reading}
 use Rattle.ahci_script.specs.Words.{after_first}
@@ -17,7 +17,7 @@ use Rattle.ahci_check.specs.declared.place.Place.TheVariants.{BeforeDisk, AfterD
 use Rattle.ahci_check.specs.declared.rule.Rule.{Rule}
 use Rattle.ahci_check.specs.declared.rule.Rule.TheVariants.{Language, Port}
 
--- before the disk stands the disk alone, and after it every other command
+-- before the disk is the disk alone, and after it every other command
 abbrev pub is_in_place : Place → ScriptCommand → Bool
 is_in_place BeforeDisk (command.Disk sectors depth first) = true
 is_in_place BeforeDisk c = false

@@ -22,7 +22,7 @@ WritesTo old new fault.Write = new ≡ with_failed_write old
 WritesTo old new fault.Read = new ≡ with_flush old
 WritesTo old new fault.OutOfMemory = new.failed ≡ old.failed
 
--- and the reads: one failed, or a byte came after the limit, and the fault is that; or none failed. A failed write is told before
+-- and the reads: one failed, or a byte came after the limit, and the fault is that; or none failed. A failed write is reported before
 -- a failed read
 abbrev pub ReadsTo : ReadSoFar → ReadSoFar → CheckFault → Type 0
 ReadsTo old new fault.Read = FailsReading new

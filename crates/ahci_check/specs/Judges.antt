@@ -1,4 +1,4 @@
--- How a line is judged: as one of a script, by where it stands, or as one of a job list.
+-- How a line is judged: as one of a script, by its place, or as one of a job list.
 use Rattle.std.specs.Prelude.{ℕ, Bool, List, Option, None, Some, Result, Ok, Err, is_some}
 use Rattle.ahci_script.specs.Jobs.{job_line_of, job_reading}
 use Rattle.ahci_script.specs.Words.{after_first}

@@ -63,7 +63,7 @@ abbrev pub far_tag : ℕ → List ℕ → List ℕ → Option Excess
 far_tag depth words [] = None
 far_tag depth words (tag ∷ tags) = option_or (tag_excess depth words tag) (far_tag depth (after_first words) tags)
 
--- and the first one that stands among those before it
+-- and the first one that is among those before it
 abbrev pub twice_among : List ℕ → List ℕ → List ℕ → Option Excess
 twice_among before words [] = None
 twice_among before words (tag ∷ tags) =

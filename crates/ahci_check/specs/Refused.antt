@@ -1,4 +1,4 @@
--- What a complaint of the port says: every port on which the line may stand refuses it.
+-- What a complaint of the port says: every port refuses it.
 use Rattle.std.specs.Prelude.{◌≡◌, ℕ, false, List, Option, None, Some}
 use Rattle.ahci_port.specs.Headline.{Headline}
 use Rattle.ahci_port.specs.PortView.{PortView}

@@ -14,7 +14,7 @@ use Rattle.sata_fis.specs.Places.{byte}
 abbrev pub is_header : HeaderFields → Bool
 is_header h = h.cfl == 5 && (not h.a && (not h.r && (not h.b && (not h.c && (nat_le 1 h.prdtl && nat_le h.prdtl 32)))))
 
--- and the table stands in this window
+-- and the table is in this window
 abbrev pub has_table : WindowState → Bool
 has_table w =
     (header_of w).ctba == base w.tag && ((header_of w).ctbau == 0 && (nat_le (table_end w) (length w.bytes) && nat_le (length w.bytes) most_bytes))

@@ -17,7 +17,7 @@ use std::mem;
 use streams::{Reads, Writes, take_lines};
 
 /// Judges each line of the script that the reader gives, runs nothing, and writes a line for each complaint in this form, in the
-/// order of the lines. `true` where there was any. A line of more than 4,096 bytes is the last that is judged. What was told is
+/// order of the lines. `true` where there was any. A line of more than 4,096 bytes is the last that is judged. What was reported is
 /// written before more of the script is read.
 ///
 /// # Errors
@@ -101,7 +101,7 @@ pub fn check_with<R: Read, W: Write, A: Allocator + Clone>(
     Ok(found)
 }
 
-/// Judges all lines on a sheet that has none yet, and tells how the reads and writes went.
+/// Judges all lines on a sheet that has none yet, and returns how the reads and writes went.
 fn fill_sheet<R: Read, W: Write, A: Allocator + Clone>(
     alloc: A,
     sheet: &mut Sheet<A>,

@@ -7,7 +7,7 @@ pub struct Complaint {
     /// The number of the line, counted from 1.
     pub line: u64,
     /// Where the word begins that breaks the rule: its first byte, counted from 1; a byte over 127 itself; after the line,
-    /// where a word is missing; 4,097 in a line that is too long. `None` where it is the whole line, which stands where it may not.
+    /// where a word is missing; 4,097 in a line that is too long. `None` where it is the whole line, which isn't allowed there.
     pub column: Option<u64>,
     /// The rule.
     pub rule: Rule,

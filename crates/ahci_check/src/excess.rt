@@ -174,7 +174,7 @@ fn fail_excess(sectors: u64, depth: u64, words: &[u8], tag: u8, lba: u64) -> Opt
     tag_excess(depth, words, tag).or(sector_excess(sectors, last, lba))
 }
 
-/// No register stands at an offset, with which the words begin.
+/// There is no register at the offset with which the words begin.
 fn register_excess(words: &[u8], off: u32) -> Option<Excess>
     ensures { result ≡ register_excess words.now (register_at off) }
 {

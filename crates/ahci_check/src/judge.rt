@@ -11,7 +11,7 @@ use std::alloc::{AllocError, Allocator};
 /// How the next line is judged.
 #[derive(Clone, Copy, Debug, PartialEq, Eq)]
 pub enum Judge {
-    /// As a line of a script, which stands here.
+    /// As a line of a script, at this place.
     OfScript(Place),
     /// As a line of a job list.
     OfJobs,

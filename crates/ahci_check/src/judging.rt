@@ -12,7 +12,7 @@ use ahci_script::{Breach, Line, ScriptCommand, read_line};
 use std::alloc::{AllocError, Allocator};
 
 /// What there is to say of a line of the given number, without its line feed: the rule of the language that it breaks first,
-/// from the left; else that its command may not stand here; else the first limit of the port that it passes. `None` only where
+/// from the left; else that its command isn't allowed here; else the first limit of the port that it passes. `None` only where
 /// `replay` takes the line, whatever the port then answers.
 ///
 /// # Errors

@@ -3,7 +3,7 @@
 use ahci_table::TableFault;
 use std::fmt;
 
-/// A limit of the port that a line passes. Every port on which the line may stand refuses it, and `replay` goes on.
+/// A limit of the port that a line passes. Every port refuses it, and `replay` goes on.
 #[derive(Clone, Copy, Debug, PartialEq, Eq)]
 pub enum Limit {
     /// A `write` or `read` of 0 sectors.

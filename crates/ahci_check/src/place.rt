@@ -1,4 +1,4 @@
-//! Where a line of a script stands: before its disk, or on a port.
+//! Where a line of a script is: before its disk, or on a port.
 
 ghost use Rattle.std.specs.Prelude.{◌≡◌};
 ghost use Rattle.ahci_check.specs.Complaints.{is_in_place, misplaced, place_after, place_by};
@@ -6,7 +6,7 @@ ghost use Rattle.ahci_check.specs.Complaints.{is_in_place, misplaced, place_afte
 use crate::excess::disk_excess;
 use ahci_script::{Breach, Fault, Line, ScriptCommand, after_first, read_line};
 
-/// Where a line of a script stands: the first `disk` whose numbers are in the port's limits opens what stands after it.
+/// Where a line of a script is: the first `disk` whose numbers are in the port's limits begins what comes after it.
 #[derive(Clone, Copy, Debug, PartialEq, Eq)]
 pub enum Place {
     BeforeDisk,
@@ -47,7 +47,7 @@ impl Place {
         }
     }
 
-    /// Whether a command may stand here.
+    /// Whether a command is allowed here.
     pub(crate) fn takes(self, command: &ScriptCommand<'_>) -> bool
         ensures { result ≡ is_in_place self command.now }
     {
@@ -57,7 +57,7 @@ impl Place {
         }
     }
 
-    /// The rule that a command breaks which may not stand here.
+    /// The rule that a command breaks if it isn't allowed here.
     pub(crate) fn rule(self) -> Fault
         ensures { result ≡ misplaced self }
     {

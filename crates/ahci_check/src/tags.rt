@@ -9,7 +9,7 @@ use crate::limit::Limit;
 use ahci_script::after_first;
 
 /// The first limit that a list of tags passes, with which the words begin: a tag for which the port has no slot; else one that
-/// stands in the list twice.
+/// is in the list twice.
 pub(crate) fn tags_excess(depth: u64, words: &[u8], tags: &[u8]) -> Option<Excess>
     ensures { result ≡ tags_excess depth words.now tags.now }
 {
@@ -31,7 +31,7 @@ fn far_tag(depth: u64, words: &[u8], tags: &[u8]) -> Option<Excess>
     None
 }
 
-/// The first tag that stands among those before it.
+/// The first tag that is also among those before it.
 fn tag_twice(words: &[u8], tags: &[u8]) -> Option<Excess>
     ensures { result ≡ twice_among [] words.now tags.now }
 {
@@ -45,7 +45,7 @@ fn tag_twice(words: &[u8], tags: &[u8]) -> Option<Excess>
     None
 }
 
-/// Whether a tag stands among some.
+/// Whether a tag is among some.
 fn has_tag(tags: &[u8], tag: u8) -> bool
     ensures { result ≡ list_any (λ other. nat_eq other tag) tags.now }
 {

@@ -137,8 +137,8 @@ Does (Log tag error lba raw) i o outcome = DidPage (log_output tag error lba raw
 
 -- ---- how the reads and the writes went, by the outcome
 
--- a fault of the input is told only if a read failed, or a byte came after the limit; and a read failed only if that is told, or
--- output or memory was wanting, which is told before it
+-- a fault of the input is reported only if a read failed, or a byte came after the limit; and a read failed only if that is reported, or
+-- output or memory was wanting, which is reported before it
 abbrev pub ReadsFor : {T : Type 0} → ReadSoFar → ReadSoFar → Result T CliFault → Type 0
 ReadsFor old new (Ok done) = new.failed ≡ old.failed
 ReadsFor old new (Err fault.Read) = FailsReading new
@@ -148,7 +148,7 @@ ReadsFor old new (Err fault.CheckWrite) = ⊤
 ReadsFor old new (Err fault.OutOfMemory) = ⊤
 ReadsFor old new (Err other) = new.failed ≡ old.failed
 
--- a fault of the output is told exactly if a write or a flush failed; else what was written is flushed, unless memory was wanting
+-- a fault of the output is reported exactly if a write or a flush failed; else what was written is flushed, unless memory was wanting
 abbrev pub WritesFor : {T : Type 0} → WrittenSoFar → WrittenSoFar → Result T CliFault → Type 0
 WritesFor old new (Ok done) = new ≡ with_flush old
 WritesFor old new (Err fault.Write) = new.failed ≡ true

@@ -12,7 +12,7 @@ use thiserror::Error;
 /// Why the program ends early. The text is what standard error shows.
 #[derive(Clone, Copy, Debug, PartialEq, Eq, Error)]
 pub enum CliFault {
-    /// A line of a script that is no line of the language, or stands where it may not.
+    /// A line of a script that is no line of the language, or isn't allowed where it is.
     #[error("ahci: line {0}: not understood")]
     Line(u64),
     /// A job with a bad count or address.

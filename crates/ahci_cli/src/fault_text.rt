@@ -10,7 +10,7 @@ use itoa::Buffer;
 /// How many bytes the text of a fault has at most.
 const LONGEST: usize = 64;
 
-/// The text of a fault with its line feed, as standard error shows it. It takes no memory, so want of memory can be told.
+/// The text of a fault with its line feed, as standard error shows it. It takes no memory, so that even a lack of memory can be reported.
 pub(crate) fn text_of(fault: CliFault) -> ArrayString<LONGEST>
     ensures { result.bytes ≡ fault_text fault }
 {

@@ -1,4 +1,4 @@
-//! A script that is run, told, judged or drawn; and a job list that is judged.
+//! A script that is run, traced, judged or drawn; and a job list that is judged.
 
 ghost use Rattle.std.specs.Prelude.{◌≡◌, IfErr, OnOk};
 ghost use Rattle.ahci_cli.specs.Faults.{IsFaultOf, of_script};

@@ -43,7 +43,7 @@ all_at p d other [] i h = other
 all_at p d other (x ∷ xs) zero h = (and_parts _ _ h).0
 all_at p d other (x ∷ xs) (suc i) h = all_at p d other xs i (and_parts _ _ h).1
 
--- a byte before one that isn't 0 stands in the line
+-- a byte before one that isn't 0 is in the line
 plain_before : (xs : List ℕ) (i j : ℕ) → Plain xs → i ≤ j → (get_or xs j 0 ≡ 0 → ⊥) → is_plain (get_or xs i 0) ≡ true
 plain_before [] i j h low other = absurd (other refl)
 plain_before (x ∷ xs) zero j h low other = (and_parts _ _ h).0

@@ -36,7 +36,7 @@ text_after true p l opened r hq hp = absurd (cc)
 text_after false true l opened r hq hp = refl
 text_after false false l opened r hq hp = absurd (cc)
 
--- plain bytes leave a reader where it stands, in a value and between tags
+-- plain bytes leave a reader where it is, in a value and between tags
 pub in_value : (text : List ℕ) (name : List ℕ) (opened : List (List ℕ)) → list_all is_plain text ≡ true → reads text (at (Quoted name) opened) ≡ at (Quoted name) opened
 in_value [] name opened h = refl
 in_value (b ∷ more) name opened h =
@@ -53,7 +53,7 @@ pub reads-append : (a b : List ℕ) (r : Reader) → reads (a ++ b) r ≡ reads 
 reads-append [] b r = refl
 reads-append (x ∷ a) b r = reads-append a b (after r.place r.opened x)
 
--- a piece that leaves a reader where it stands
+-- a piece that leaves a reader where it is
 pub past : (text rest : List ℕ) (r : Reader) → reads text r ≡ r → reads (text ++ rest) r ≡ reads rest r
 past text rest r stays = reads-append text rest r ∙ ap (reads rest) stays
 

@@ -69,7 +69,7 @@ SendWrites old new fault.Write = new ≡ with_failed_write old
 SendWrites old new fault.OutOfMemory = new ≡ old
 SendWrites old new _ = ⊥
 
--- where a fault is told
+-- where a fault is reported
 abbrev pub DrawWrites : WrittenSoFar → WrittenSoFar → ScriptFault → Type 0
 DrawWrites old new (fault.Line n) = new ≡ with_flush old
 DrawWrites old new fault.Read = new ≡ with_flush old

@@ -16,7 +16,7 @@ abbrev pub line_of : ℕ → List TagState → Option Entry → List ℕ
 line_of number tags None = []
 line_of number tags (Some entry) = entry_line number (moved tags entry) entry
 
--- the lines of so many entries from a number on; before them the tags stood so
+-- the lines of so many entries from a number on; before them the tags had these states
 unfoldable pub entries_text : (first : ℕ) (past : List Entry) → List TagState → ℕ → ℕ → List ℕ
 entries_text first past tags number zero = []
 entries_text first past tags number (suc more) =

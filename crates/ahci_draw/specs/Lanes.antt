@@ -7,11 +7,11 @@ use Rattle.ahci_draw.specs.Strip.{runs_text}
 use Rattle.ahci_draw.specs.declared.strip.Strip.TheVariants.{Lane, Device}
 use Rattle.ahci_draw.specs.Text.{letter, numbered}
 
--- an entry tells of a tag: the tag is not free after it, or it is the entry's own
+-- an entry is about a tag: the tag is not free after it, or it is the entry's own
 abbrev pub is_told : List ℕ → ℕ → Bool
 is_told line tag = not (slice_index line tag == 46) || (slice_index line lane_place == letter tag)
 
--- a tag has a lane where some entry tells of it
+-- a tag has a lane where some entry is about it
 abbrev pub has_lane : List (List ℕ) → ℕ → Bool
 has_lane lines tag = list_any (λ line. is_told line tag) lines
 

@@ -19,7 +19,7 @@ AreClosedBefore = (from to : ℕ) (r s : Option (List ℕ)) (f : ScriptFault) (s
 abbrev pub HaveCharactersAlone : Type 0
 HaveCharactersAlone = (text : List ℕ) → IsClosed text → list_all is_character text ≡ true
 
--- the lines of all rows, one row after the other, are the lines that are drawn, whose count the heading tells
+-- the lines of all rows, one row after the other, are the lines that are drawn, whose count the heading has
 abbrev pub HoldEachOnce : Type 0
 HoldEachOnce = (lines : List (List ℕ)) → flat_map (row_of lines) (range_with_len 0 (rows_in (length lines))) ≡ lines
 

@@ -1,5 +1,5 @@
 -- The line of an entry in the sheet: a letter for each of the 32 tags, one for how many tags the device has, the entry's sign, the
--- lane that it stands in, and the entry in words. No byte of it but the line feed at its front is one that XML reads as more than itself.
+-- lane that it is in, and the entry in words. No byte of it but the line feed at its front is one that XML reads as more than itself.
 use Rattle.std.specs.Prelude.{ℕ, if◌then◌else◌, Bool, List, [], ◌∷◌, ◌++◌, flat_map, slice_index_or}
 use Rattle.std.specs.List.{range_with_len}
 use Rattle.ncq_journal.specs.Entry.{Entry, Issue, Accept, Complete, Fail, Recover, Reissue, Collect, Unqueued}
@@ -13,7 +13,7 @@ use Rattle.ahci_draw.specs.Text.{letter}
 use Rattle.ahci_draw.specs.Words.{title_text}
 use Rattle.ahci_draw.specs.declared.tag_state.TagState.{TagState}
 
--- where a tag stands: i issued, a accepted, f failed, h held, d done, in capitals for a write, and a dot for a free one
+-- the state of a tag: i issued, a accepted, f failed, h held, d done, in capitals for a write, and a dot for a free one
 abbrev pub cell : Phase → Bool → ℕ
 cell Free writes = 46
 cell Issued writes = if writes then 73 else 105
@@ -62,7 +62,7 @@ lane_of (Reissue tag) = letter tag
 lane_of (Collect tag) = letter tag
 lane_of (Unqueued command) = 46
 
--- the line of an entry, after which the tags stand so
+-- the line of an entry, after which the tags have these states
 unfoldable pub entry_line : ℕ → List TagState → Entry → List ℕ
 entry_line number tags entry =
     (10 ∷ []) ++ (cells tags ++ ((letter (in_device tags) ∷ sign_of entry ∷ lane_of entry ∷ []) ++ title_text number entry))

@@ -1,4 +1,4 @@
--- The lines of a sheet, and what stands in a line.
+-- The lines of a sheet, and what is in a line.
 use Rattle.std.specs.Prelude.{ℕ, ◌==◌, ◌&&◌, Bool, false, List, map, filter, nat_le, take, drop, Option, None, Some, position, Result, Ok, Err}
 use Rattle.std.specs.Borrow.{Bor}
 use Rattle.std.specs.List.{slice_split}
@@ -27,7 +27,7 @@ abbrev pub front_to : List ℕ → Option ℕ → List ℕ
 front_to title None = title
 front_to title (Some end) = take end title
 
--- the entry's number, which stands before the first colon
+-- the entry's number, which is before the first colon
 abbrev pub label_of : List ℕ → List ℕ
 label_of title = front_to title (position (λ byte. byte == 58) title)
 

@@ -14,7 +14,7 @@ is_sheet_byte byte = is_plain byte || (byte == 10)
 abbrev pub is_name : ℕ → Bool
 is_name byte = (nat_le 97 byte && nat_le byte 122) || ((nat_le 65 byte && nat_le byte 90) || (byte == 45))
 
--- where a reader stands; names have their last byte first
+-- the state of a reader; names have their last byte first
 pub data Place : Type 0 where
   -- between tags
   Text : Place
@@ -62,7 +62,7 @@ abbrev pub after_name : List ℕ → List (List ℕ) → ℕ → Reader
 after_name name opened byte =
     if byte == 32 then at (Spaced name) opened else (if byte == 47 then at Emptied opened else (if byte == 62 then at Text (name ∷ opened) else wrong))
 
--- where a reader stands after one more byte
+-- the state of a reader after one more byte
 abbrev pub after : Place → List (List ℕ) → ℕ → Reader
 after Text opened byte = if byte == 60 then at Begun opened else (if is_plain byte || (byte == 10) then at Text opened else wrong)
 after Begun opened byte = if byte == 47 then at (Ending []) opened else (if is_name byte then at (Named (byte ∷ [])) opened else wrong)
@@ -84,6 +84,6 @@ reads (byte ∷ more) reader = reads more (after reader.place reader.opened byte
 abbrev pub IsClosed : List ℕ → Type 0
 IsClosed text = reads text (at Text []) ≡ at Text []
 
--- each byte is one that XML 1.0 lets stand in a text ("Characters") and that is ASCII: printable, or a line feed
+-- each byte is one that XML 1.0 allows in a text ("Characters") and that is ASCII: printable, or a line feed
 abbrev pub is_character : ℕ → Bool
 is_character byte = (nat_le 32 byte && nat_le byte 126) || (byte == 10)

@@ -9,7 +9,7 @@ use Rattle.ahci_draw.specs.Overview.{body_text}
 unfoldable pub picture_with : List ℕ → List (List ℕ) → List ℕ
 picture_with tags lines = heading_text (length lines) (length tags) ++ (body_text tags lines ++ codes "\n</svg>")
 
--- a lane for each tag that some entry tells of
+-- a lane for each tag that some entry is about
 abbrev pub picture_of : List (List ℕ) → List ℕ
 picture_of lines = picture_with (tags_in lines) lines
 

@@ -20,6 +20,6 @@ abbrev pub added_between : Option PortView → Option PortView → List ℕ
 added_between before None = []
 added_between before (Some port) = added_on (mark_of before) port
 
--- the text for an answer: each line of an entry begins with a line feed, and one more stands after them
+-- the text for an answer: each line of an entry begins with a line feed, and one more comes after them
 abbrev pub sheet_text : Telling
 sheet_text number line said before after = added_between before after ++ 10 ∷ []

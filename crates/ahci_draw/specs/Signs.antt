@@ -1,4 +1,4 @@
--- The signs of entries, and what stands above the lanes. A line of the sheet is a column of the row.
+-- The signs of entries, and what is above the lanes. A line of the sheet is a column of the row.
 use Rattle.std.specs.Prelude.{ℕ, ◌*◌, ◌%◌, ◌==◌, if◌then◌else◌, List, [], ◌∷◌, ◌++◌, codes, flat_map, length, slice_index, slice_index_or}
 use Rattle.std.specs.List.{range_with_len}
 use Rattle.ahci_draw.specs.Lines.{label_of, lane_place, sign_place, title_of}
@@ -11,7 +11,7 @@ sign_shape column foot title sign =
     numbered (codes "<text x='") (middle_of column) ++ (numbered (codes "' y='") foot ++ (codes "'><title>" ++ (title ++ (codes "</title>"
     ++ ((sign ∷ []) ++ codes "</text>")))))
 
--- the sign of a column, where it stands in a lane of this letter
+-- the sign of a column, where it is in a lane of this letter
 abbrev pub sign_at : (lane foot column : ℕ) → List ℕ → List ℕ
 sign_at lane foot column line = if slice_index line lane_place == lane then sign_shape column foot (title_of line) (slice_index line sign_place) else []
 
@@ -39,7 +39,7 @@ rule_shape lanes column colour =
 abbrev pub rule_at : (lanes column sign : ℕ) → List ℕ
 rule_at lanes column sign = if sign == 88 then rule_shape lanes column (codes "e55") else (if sign == 86 then rule_shape lanes column (codes "96d") else [])
 
--- what stands behind and above the lanes of a column: its line, its number, and the sign of a command that is not queued
+-- what is behind and above the lanes of a column: its line, its number, and the sign of a command that is not queued
 unfoldable pub head_at : (lanes column : ℕ) → List ℕ → List ℕ
 head_at lanes column line = rule_at lanes column (slice_index line sign_place) ++ (label_at column line ++ sign_at 46 20 column line)
 

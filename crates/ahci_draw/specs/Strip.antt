@@ -41,7 +41,7 @@ abbrev pub run_text : Strip → ℕ → ℕ → ℕ → List ℕ
 run_text (Lane lane) cell start count = if cell == 46 then [] else bar_shape lane (colour_of cell) start count
 run_text (Device lanes) cell start count = if nat_le cell 65 then [] else level_shape lanes (cell - 65) start count
 
--- a run begins where another letter stands before it, or none
+-- a run begins where another letter comes before it, or none
 abbrev pub begins : List ℕ → ℕ → Bool
 begins cells place = if place == 0 then true else not (slice_index cells (place - 1) == slice_index cells place)
 

@@ -1,4 +1,4 @@
--- Where the commands of the 32 tags stand, and which tags were last issued to write.
+-- The states of the commands of the 32 tags, and which tags were last issued to write.
 use Rattle.std.specs.Prelude.{ℕ, ◌==◌, List, map, filter, length, replicate, if◌then◌else◌, Bool, false, Option, None, Some, option_and_then, slice_index_or}
 use Rattle.std.specs.List.{list_any, range_with_len}
 use Rattle.ahci_port.specs.Faults.{is_accepted}

@@ -33,7 +33,7 @@ fn push_entry<A: Allocator, B: Allocator>(
     }
 }
 
-/// Appends a line for each entry from a number on. Before them the tags stood so.
+/// Appends a line for each entry from a number on. Before them the tags had these states.
 fn push_entries<A: Allocator, B: Allocator>(
     text: &mut TextBuffer<A>,
     journal: &Journal<B>,

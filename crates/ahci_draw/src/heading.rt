@@ -40,7 +40,7 @@ fn height_of(columns: usize, lanes: usize) -> u128
     row_height(lanes) * (rows_in(columns).min(48) as u128) + 96 + overview_height(columns)
 }
 
-/// Appends what stands before the rows, where there are so many columns and lanes.
+/// Appends what comes before the rows, where there are so many columns and lanes.
 pub(crate) fn push_heading<A: Allocator>(
     text: &mut TextBuffer<A>,
     columns: usize,

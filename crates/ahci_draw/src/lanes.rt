@@ -12,21 +12,21 @@ use crate::text::{letter, push_number};
 use std::alloc::{AllocError, Allocator};
 use streams::TextBuffer;
 
-/// Whether an entry tells of a tag: the tag is not free after it, or it is the entry's own.
+/// Whether an entry is about a tag: the tag is not free after it, or it is the entry's own.
 fn is_told(line: &[u8], tag: usize) -> bool
     ensures { result ≡ is_told line.now tag }
 {
     byte_at(line, tag) != b'.' || byte_at(line, LANE) == letter(tag)
 }
 
-/// Whether some entry tells of a tag.
+/// Whether some entry is about a tag.
 fn some_tells(lines: &[&[u8]], tag: usize) -> bool
     ensures { result ≡ list_any (λ line. is_told line.now tag) lines.now }
 {
     lines.iter().any(|line| is_told(line, tag))
 }
 
-/// Whether a tag has a lane: some entry tells of it.
+/// Whether a tag has a lane: some entry is about it.
 fn has_lane(lines: &[&[u8]], tag: usize) -> bool
     ensures { result ≡ has_lane (texts lines.now) tag }
 {

@@ -1,7 +1,7 @@
 //! Laws: each function is empty, and its clause holds of all pictures.
 ghost use Rattle.ahci_draw.specs.Laws.{AreAtTheirPlaces, AreClosed, AreClosedBefore, HaveCharactersAlone, HoldEachOnce, PlacesHoldEachOnce};
 
-/// The picture of a script that was replayed to its end is closed: each element is closed by its name, attributes stand in quotes,
+/// The picture of a script that was replayed to its end is closed: each element is closed by its name, attributes are in quotes,
 /// and nothing of an entry is read as a tag.
 pub fn a_picture_is_closed()
     ensures { AreClosed }

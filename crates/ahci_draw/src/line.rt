@@ -13,7 +13,7 @@ use ncq_journal::{Event, Op, Phase, Plain};
 use std::alloc::{AllocError, Allocator};
 use streams::TextBuffer;
 
-/// Where a tag stands, as a letter: a capital for a write.
+/// The state of a tag, as a letter: a capital for a write.
 fn cell(phase: Phase, writes: bool) -> u8
     ensures { result ≡ cell phase writes }
 {
@@ -51,7 +51,7 @@ fn plain_sign(command: Plain) -> u8
     }
 }
 
-/// The sign that stands for an entry.
+/// The sign of an entry.
 fn sign_of<A: Allocator>(event: &Event<A>) -> u8
     ensures { result ≡ sign_of (entry_of event.now) }
 {
@@ -67,7 +67,7 @@ fn sign_of<A: Allocator>(event: &Event<A>) -> u8
     }
 }
 
-/// The lane that an entry's sign stands in: its tag's letter, or a dot for none.
+/// The lane of an entry's sign: its tag's letter, or a dot for none.
 fn lane_of<A: Allocator>(event: &Event<A>) -> u8
     ensures { result ≡ lane_of (entry_of event.now) }
 {
@@ -97,7 +97,7 @@ fn push_cells<A: Allocator>(
     Ok(())
 }
 
-/// Appends the line of an entry, after which the tags stand so.
+/// Appends the line of an entry, after which the tags have these states.
 #[tactic(auto, unfolding(crate::specs::Line::entry_line))]
 pub(crate) fn push_line<A: Allocator, B: Allocator>(
     text: &mut TextBuffer<A>,

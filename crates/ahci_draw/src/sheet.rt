@@ -1,4 +1,4 @@
-//! The lines of a sheet, and what stands in a line.
+//! The lines of a sheet, and what a line has.
 
 ghost use Rattle.std.specs.Prelude.{◌≡◌, ◌<◌, ◌==◌, IfOk, IfSome, length, position, slice_index};
 ghost use Rattle.ahci_draw.specs.Lines.{is_asked, label_of, lines_from, texts, title_of};
@@ -35,7 +35,7 @@ pub(crate) fn title_of(line: &[u8]) -> &[u8]
     &line[TITLE..]
 }
 
-/// Where the first colon stands.
+/// The place of the first colon.
 fn colon_in(title: &[u8]) -> Option<usize>
     ensures place { result ≡ position (λ byte. byte == 58) title.now }
     ensures within { IfSome result (λ end. end < length title.now) }
@@ -43,7 +43,7 @@ fn colon_in(title: &[u8]) -> Option<usize>
     title.iter().position(|byte| *byte == b':')
 }
 
-/// The entry's number, which stands before the first colon.
+/// The entry's number, which is before the first colon.
 pub(crate) fn label_of(title: &[u8]) -> &[u8]
     ensures { result.now ≡ label_of title.now }
 {

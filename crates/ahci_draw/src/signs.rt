@@ -1,4 +1,4 @@
-//! The signs of entries, and what stands above the lanes.
+//! The signs of entries, and what is above the lanes.
 
 ghost use Rattle.std.specs.Prelude.{◌≡◌, ◌++◌, OnOk};
 ghost use Rattle.ahci_draw.specs.Lines.{texts};
@@ -9,7 +9,7 @@ use crate::text::{Piece, push_pieces};
 use std::alloc::{AllocError, Allocator};
 use streams::TextBuffer;
 
-/// Appends the sign of a column, and what a pointer shows there, where it stands in a lane of this letter.
+/// Appends the sign of a column, and what a pointer shows there, if it is in a lane of this letter.
 #[tactic(auto, unfolding(crate::specs::Signs::sign_shape))]
 fn push_sign_at<A: Allocator>(
     text: &mut TextBuffer<A>,
@@ -114,7 +114,7 @@ pub(crate) fn push_label_at<A: Allocator>(
     )
 }
 
-/// Appends what stands behind and above the lanes of a column.
+/// Appends what is behind and above the lanes of a column.
 #[tactic(auto, unfolding(crate::specs::Signs::head_at))]
 fn push_head<A: Allocator>(
     text: &mut TextBuffer<A>,

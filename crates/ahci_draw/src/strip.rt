@@ -36,7 +36,7 @@ fn colour_of(cell: u8) -> &'static [u8]
     }
 }
 
-/// Whether a run begins at a place: another letter stands before it, or none.
+/// Whether a run begins at a place: another letter comes before it, or none.
 fn begins(cells: &[u8], place: usize) -> bool
     requires { place < length cells.now }
     ensures { result ≡ begins cells.now place }

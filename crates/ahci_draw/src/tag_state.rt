@@ -1,6 +1,6 @@
 use ncq_journal::Phase;
 
-/// Where a tag's command stands, and whether it was last issued to write.
+/// The state of a tag's command, and whether it was last issued to write.
 #[derive(Clone, Copy, Debug)]
 pub(crate) struct TagState {
     pub(crate) phase: Phase,

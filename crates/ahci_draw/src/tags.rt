@@ -1,4 +1,4 @@
-//! Where the commands of the 32 tags stand, and which of them write, by tag.
+//! The states of the commands of the 32 tags, and which of them write, by tag.
 
 ghost use Rattle.std.specs.Prelude.{◌≡◌, None, Some, filter, length};
 ghost use Rattle.std.specs.List.{list_any};

@@ -7,7 +7,7 @@ use Rattle.ahci_port.specs.PortView.{PortView}
 use Rattle.ahci_driver.specs.Finishing.{HasAnswered, HasGotOn, HasReceived, HasTaken, HasWaited, at_once, no_turn, one_more, turn}
 use Rattle.ahci_driver.specs.Pumping.{HasGotOn as HasPumpedOn}
 
--- what comes back with a refusal that is told exactly
+-- what comes back with a refusal that is reported exactly
 pub came_back : {T E R : Type 0} (refusal : Option R) (result : Result T E) (P : E → Type 0) (Q : R → E → Type 0)
     → MatchOption refusal (IsOk result) (λ f. IsErrAnd result (λ e. P e × Q f e)) → IfErr result P
 came_back refusal (Ok x) P Q h = tt

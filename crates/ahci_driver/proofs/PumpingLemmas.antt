@@ -101,7 +101,7 @@ serve_may port tag running e =
     ap (λ b. cond b (Some step_fault.Halted) (cond (is_accepted (phase port.past tag) && true) None (Some step_fault.NotAccepted))) running
     ∙ ap (λ b. cond (b && true) None (Some step_fault.NotAccepted)) e
 
--- nothing stands against the step of `Low` where some tag is busy
+-- nothing refuses the step of `Low` if some tag is busy
 pub lowest_is_lawful : (port : PortView) (issued accepted : ℕ) (step : DeviceStep) → IsLowestStep issued accepted step → halted port.past ≡ false
     → busy port.past ≡ true → bits issued ≡ issued_tags port.past → bits accepted ≡ accepted_tags port.past → step_refusal port step ≡ None
 lowest_is_lawful port issued accepted (Serve tags) h running b i a = of_one tags.items h

@@ -15,7 +15,7 @@ use Rattle.ahci_driver.specs.Choosing.{IsLowestStep}
 use Rattle.ahci_driver.specs.declared.pumped.Pumped.{Pumped}
 use Rattle.ahci_driver.specs.declared.pumped.Pumped.TheVariants as pumped
 
--- the device took a step that nothing stood against
+-- the device took a step that nothing refused
 pub record HasStepped (old new : PortView) (done : Stepped) : Type 0 where
   pub step : DeviceStep
   pub taken : step_refusal old step ≡ None
@@ -31,7 +31,7 @@ IsPumped old new (pumped.Reissued tag) = (halted old.past ≡ false) × IsLowest
 IsPumped old new pumped.Idle = IsRunning old × (busy old.past ≡ false) × (new ≡ old)
 IsPumped old new (pumped.Stepped done) = IsRunning old × (busy old.past ≡ true) × HasStepped old new done
 
--- what a chooser's answer leads to: nothing stood against it, and it was done, or something did, and the step of `Low` was
+-- what a chooser's answer leads to: nothing refused it, and it was done, or something did, and the step of `Low` was
 abbrev pub LeadsTo : PortView → PortView → ℕ → ℕ → DeviceStep → Stepped → Option StepFault → Type 0
 LeadsTo old new issued accepted answer done None = IsStepped answer old new done
 LeadsTo old new issued accepted answer done (Some fault) = (low : DeviceStep) × IsLowestStep issued accepted low × IsStepped low old new done

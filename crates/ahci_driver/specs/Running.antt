@@ -47,7 +47,7 @@ IsStill port handed = (port.starting ≡ handed.starting.items) × (port.depth �
 abbrev pub IsReturned : {A : _} → PortView → Handed A → Type 0
 IsReturned port handed = IsStill port handed × IsLeft port
 
--- a fault of a run that has begun; want of memory is told as itself
+-- a fault of a run that has begun; want of memory is reported as itself
 abbrev pub IsLate : RunFault → Type 0
 IsLate NotFresh = ⊥
 IsLate (BadJob i) = ⊥

@@ -25,7 +25,7 @@ buffer_for (Write lba bytes) = []
 abbrev pub default_refusal : Work → Option BuildFault
 default_refusal work = refusal work (default_list (sectors_of work))
 
--- no window was built for this reason; memory may be wanted where nothing else stands against the command
+-- no window was built for this reason; memory may be wanted if nothing else refuses the command
 abbrev pub IsNotBuilt : Work → BuildFault → Type 0
 IsNotBuilt work build.OutOfMemory = default_refusal work ≡ None
 IsNotBuilt work fault = default_refusal work ≡ Some fault

@@ -38,7 +38,7 @@ fn bytes_in<A: Allocator>(
     buffer
 }
 
-/// An answer that was taken out of its slot. The bytes of a finished read still stand in the window.
+/// An answer that was taken out of its slot. The bytes of a finished read are still in the window.
 #[derive(Drop)]
 pub(crate) struct Answered<A: Allocator> {
     reply: Reply,

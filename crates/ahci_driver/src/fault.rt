@@ -20,7 +20,7 @@ pub enum PumpFault {
     OutOfMemory,
 }
 
-/// Why a run is not settled. The cases are tested in this order, but that `OutOfMemory` may stand in place of those
+/// Why a run is not settled. The cases are tested in this order, but that `OutOfMemory` may come in place of those
 /// after `Count`.
 #[derive(Clone, Copy, Debug, PartialEq, Eq)]
 pub enum SettleFault {

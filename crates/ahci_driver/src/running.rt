@@ -178,7 +178,7 @@ where
     Ok((port, ends))
 }
 
-/// Why a run is given up that isn't settled: want of memory is told as itself.
+/// Why a run is given up that isn't settled: a lack of memory is reported as itself.
 fn unsettled(fault: SettleFault) -> RunFault
     ensures why { result ≡ unsettled fault }
     ensures late { IsLate result }

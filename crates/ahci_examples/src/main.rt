@@ -1,5 +1,5 @@
 //! Runs each script and each job list of the examples, traces and checks each script, and compares what is written with the
-//! text that stands beside it. So it does with a picture, with two of the disk's pages, and with each page of help.
+//! text beside it. So it does with a picture, with two of the disk's pages, and with each page of help.
 #![tactic(auto)]
 
 ghost use Rattle.std.specs.Prelude.{◌≤◌};
@@ -62,7 +62,7 @@ static MADE: [(&str, Tool); 4] = [
     ("error_in_a_queue", Tool::Draw),
 ];
 
-/// Command lines that are told help: what is written is in `NAME.out`. The program is called `ahci` whatever its own file is.
+/// Command lines that print help: what is written is in `NAME.out`. The program is called `ahci` whatever its own file is.
 static HELPS: [(&str, &str); 9] = [
     ("help", "ahci --help"),
     ("help", "/usr/bin/port --help"),
@@ -75,7 +75,7 @@ static HELPS: [(&str, &str); 9] = [
     ("help_log", "ahci log --help"),
 ];
 
-/// Command lines that are wrong: what is told is in `NAME.out`.
+/// Command lines that are wrong: what is reported is in `NAME.out`.
 static WRONG: [(&str, &str); 2] = [
     ("wrong_words", "ahci runs"),
     (
@@ -253,7 +253,7 @@ fn is_error_log_as_expected(rt: &HostRuntime) -> anyhow::Result<bool> {
     is_told(rt, "error_log", outcome, written.as_slice())
 }
 
-/// Whether a command line ends with this status, and writes and tells the text of `NAME.out`.
+/// Whether a command line ends with this status, and writes the text of `NAME.out`.
 fn is_line_as_expected<T: Threads + Wait + Sync>(
     rt: &HostRuntime,
     threads: &T,

@@ -26,6 +26,6 @@ text_read port tag number w a h none e here = by a.outcome refl
     by outcome.Wrote r = tt
     by (outcome.Failed error lba) r = tt
 
--- nothing stands against a call that is done
+-- nothing refuses a call that is done
 pub told_done : (reason : Option Status) (done same : Type 0) → reason ≡ None → done → Told status.Done reason done same
 told_done reason done same none d = subst (λ r. Told status.Done r done same) (sym none) (refl, d)

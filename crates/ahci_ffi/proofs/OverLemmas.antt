@@ -90,7 +90,7 @@ filled {A = A} number old new reason result made is makes fills = subst (λ o. F
     by None (Ok box) makes fills = inl (fills.0, fills.1 ∙ ap fresh makes, subst Headline makes fills.2)
     by None (Err other) makes fills = inr (fills.0 ∙ ap code_of makes, fills.1)
 
--- a place that has a port is told
+-- a place that has a port is reported
 pub full : (old new : PlaceView) (reason : Option Status) (made : PortView) → is_some old.port ≡ true → new ≡ old → Fills (code_of status.PortThere) old new reason made
 full old new reason made is same = by old.port is
   where

@@ -32,7 +32,7 @@ log_refusal tag lba len = with_length 512 len (with_tag tag (if nat_le (2 ^ 48) 
 abbrev pub flat_command : QueuedFields → ℕ → FlatCommand
 flat_command queued count = record { lba = queued.lba; sectors = queued.sectors; kind = number_if queued.write; tag = queued.tag; pieces = count }
 
--- a window was looked at: it is fit, and its command stands in a struct; or the first rule that it breaks is told, or memory
+-- a window was looked at: it is fit, and its command is in a struct; or the first rule that it breaks is reported, or memory
 -- for its copy was refused
 pub data AnswersWindowCheck (window : WindowState) (answer : Status) (before after : FlatCommand) : Type 0 where
   is_fit : answer ≡ status.Done → IsFit window → after ≡ flat_command (queued_of window) (length (pieces window)) → AnswersWindowCheck window answer before after

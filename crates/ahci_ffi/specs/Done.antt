@@ -1,4 +1,4 @@
--- What each call does of a port where nothing stands against it, and what it puts where its pointers lead.
+-- What each call does of a port if nothing refuses it, and what it puts where its pointers lead.
 use Rattle.std.specs.Prelude.{◌≡◌, ℕ, true, List, length, Some, Result, Ok, Err}
 use Rattle.ahci_port.specs.Faults.{MayTake, RefusesIssue}
 use Rattle.ahci_port.specs.Looking.{accepted_tags, held_tags, issued_tags}
@@ -29,13 +29,13 @@ use Rattle.ahci_ffi.specs.declared.status.Status.TheVariants as status
 abbrev pub Same : {X Y : Type 0} → (old new : X) → (before after : Y) → Type 0
 Same old new before after = (new ≡ old) × (after ≡ before)
 
--- the device has taken a step, which stands in a struct
+-- the device has taken a step, which is in a struct
 pub record HasStepped (step : DeviceStep) (old new : PortView) (flat : FlatStep) : Type 0 where
   pub done : Stepped
   pub stepped : IsStepped step old new done
   pub told : flat ≡ flat_step done
 
--- a request is collected: its answer stands in a struct, and a read's bytes at the beginning of a buffer
+-- a request is collected: its answer is in a struct, and a read's bytes at the beginning of a buffer
 pub record HasCollected (tag number : ℕ) (old new : PortView) (reply : FlatReply) (buffer filled : List ℕ) : Type 0 where
   pub answer : Answer
   pub is : answer_to old number ≡ Some answer
@@ -48,7 +48,7 @@ pub record HasRecovered (old new : PortView) (tag : ℕ) : Type 0 where
   pub failed : is_failed (phase old.past tag) ≡ true
   pub recovered : IsRecovered tag old new
 
--- a window was handed to the port: it is fit and issued, and its number told; or the port refused it, and nothing has changed
+-- a window was handed to the port: it is fit and issued, and its number reported; or the port refused it, and nothing has changed
 pub data AnswersWindow (window : WindowState) (answer : Status) (old new : PortView) (before after : ℕ) : Type 0 where
   is_issued : answer ≡ status.Done → MayTake old window.tag → IsFit window → IsIssued window old new → after ≡ next_number old → AnswersWindow window answer old new before after
   is_refused : (fault : IssueFault) → answer ≡ status.Refused (of_issue fault) → RefusesIssue old window fault → new ≡ old → after ≡ before → AnswersWindow window answer old new before after

@@ -54,7 +54,7 @@ flat_fis (fis.PioSetup f) =
 flat_fis (fis.SetBits f) = record (bare_fis 0xA1) { i = number_if f.i; status = f.status; error = f.error; sactive = f.sactive }
 flat_fis (fis.Data xs) = record (bare_fis 0x46) { payload = length xs }
 
--- bytes were read: they spell a FIS, which stands in a struct; or the first fault that they have is told
+-- bytes were read: they spell a FIS, which is in a struct; or the first fault that they have is reported
 pub data AnswersDecode (bytes : List ℕ) (answer : Status) (before after : FlatFis) : Type 0 where
   is_fis : (f : Fis) → Spells bytes f → answer ≡ status.Done → after ≡ flat_fis f → AnswersDecode bytes answer before after
   is_fault : (fault : FisFault) → IsFault bytes fault → answer ≡ of_fis fault → after ≡ before → AnswersDecode bytes answer before after
@@ -114,7 +114,7 @@ fis_named f payload =
     else (if f.kind == 0xA1 then of_type fis.SetBits (set_bits_named f)
     else (if f.kind == 0x46 then of_type fis.Data (data_named payload) else Err status.UnknownType))))))
 
--- bytes stand at the beginning of a buffer, and their number is told; or there is no room for them
+-- bytes are at the beginning of a buffer, and their number is reported; or there is no room for them
 abbrev pub PutsAll : List ℕ → Status → (old new : List ℕ) → (before after : ℕ) → Type 0
 PutsAll bytes answer old new before after =
     Told answer (if nat_lt (length old) (length bytes) then Some status.BufferTooSmall else None)

@@ -1,4 +1,4 @@
--- What C sees as structs: which numbers stand in them.
+-- What C sees as structs: which numbers are in them.
 use Rattle.std.specs.Prelude.{ℕ, ◌/◌, List, ◌++◌, length, drop, is_some, Bool, if◌then◌else◌}
 use Rattle.std.specs.Option.{unwrap_or}
 use Rattle.ahci_port.specs.declared.step.Stepped.{Stepped}

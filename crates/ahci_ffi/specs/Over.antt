@@ -21,7 +21,7 @@ abbrev pub ReadsPort : ℕ → Option PortView → (same : Type 0) → (Status �
 ReadsPort number None same holds = (number ≡ code_of status.NoPort) × same
 ReadsPort number (Some port) same holds = Headline port × Numbered number (λ answer. holds answer port)
 
--- the place stays as it is, and an empty one is told
+-- the place stays as it is, and an empty one is reported
 abbrev pub Reads : ℕ → (old new : PlaceView) → (same : Type 0) → (Status → PortView → Type 0) → Type 0
 Reads number old new same holds = (new ≡ old) × ReadsPort number old.port same holds
 
@@ -30,7 +30,7 @@ abbrev pub ChangesPort : ℕ → (old new : Option PortView) → (same : Type 0)
 ChangesPort number None new same holds = (number ≡ code_of status.NoPort) × (new ≡ None) × same
 ChangesPort number (Some old) new same holds = IsSomeAnd new (λ port. Headline port × Numbered number (λ answer. holds answer old port))
 
--- an empty place is told, and else it has the port that the call leaves; what is half written stays
+-- an empty place is reported, and else it has the port that the call leaves; what is half written stays
 abbrev pub Changes : ℕ → (old new : PlaceView) → (same : Type 0) → (Status → PortView → PortView → Type 0) → Type 0
 Changes number old new same holds = (new.pending ≡ old.pending) × ChangesPort number old.port new.port same holds
 
@@ -63,7 +63,7 @@ FillsPlace (Some port) number old new reason made = (number ≡ code_of status.P
 abbrev pub Fills : ℕ → (old new : PlaceView) → Option Status → PortView → Type 0
 Fills number old new reason made = FillsPlace old.port number old new reason made
 
--- a place is emptied, and one that was empty told
+-- a place is emptied, and one that was empty reported
 abbrev pub EmptiesPort : ℕ → Option PortView → Type 0
 EmptiesPort number None = number ≡ code_of status.NoPort
 EmptiesPort number (Some port) = number ≡ code_of status.Done
@@ -71,7 +71,7 @@ EmptiesPort number (Some port) = number ≡ code_of status.Done
 abbrev pub Empties : ℕ → (old new : PlaceView) → Type 0
 Empties number old new = EmptiesPort number old.port × (new ≡ empty_place)
 
--- a port that was made stands in the place; where none was made, the reason is told
+-- a port that was made is in the place; where none was made, the reason is reported
 abbrev pub IsFilled : {A : Type 0} → ℕ → (old new : PlaceView) → Result (Box PortView A) Status → Type 0
 IsFilled number old new (Ok box) = (number ≡ code_of status.Done) × (new ≡ record { port = Some box.value; pending = nothing_pending }) × Headline box.value
 IsFilled number old new (Err reason) = (number ≡ code_of reason) × (new ≡ old)

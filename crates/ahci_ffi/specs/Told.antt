@@ -6,7 +6,7 @@ use Rattle.port_refusal.specs.declared.refusal.Refusal.TheVariants as refusal
 use Rattle.ahci_ffi.specs.declared.status.Status.{Status}
 use Rattle.ahci_ffi.specs.declared.status.Status.TheVariants as status
 
--- where nothing stands against it, the call is done; else it answers the reason, and what is the same stays so
+-- if nothing refuses it, the call is done; else it answers the reason, and what is the same stays so
 abbrev pub Told : Status → Option Status → (done same : Type 0) → Type 0
 Told answer None done same = (answer ≡ status.Done) × done
 Told answer (Some reason) done same = (answer ≡ reason) × same

@@ -24,7 +24,7 @@ flat_written written.Noted = record { did = 0; slots = 0; tag = 0 }
 flat_written (written.Commanded slots) = record { did = 1; slots = slots; tag = 0 }
 flat_written (written.Recovered tag) = record { did = 2; slots = 0; tag = tag }
 
--- of a refused write nothing is told but the slot whose command was not issued, where that is the fault
+-- of a refused write nothing is reported but the slot whose command was not issued, where that is the fault
 abbrev pub flat_refused : WriteFault → FlatWritten → FlatWritten
 flat_refused (fault.Issue slot why) before = record { did = 3; slots = 0; tag = slot }
 flat_refused other before = before

@@ -14,8 +14,8 @@ use port_refusal::Refusal;
 use sector_store::SectorStore;
 use std::alloc::Allocator;
 
-/// Takes the answer of a request and frees its slot. What a read has read stands at the beginning of `out` then. It takes no
-/// memory, and a buffer that is too small is told before anything changes.
+/// Takes the answer of a request and frees its slot. What a read has read is at the beginning of `out` then. It takes no
+/// memory, and a buffer that is too small is reported before anything changes.
 pub fn collect<A: Allocator, S: SectorStore>(
     port: &mut Port<A, S>,
     tag: u32,
@@ -36,7 +36,7 @@ pub fn collect<A: Allocator, S: SectorStore>(
     Status::Done
 }
 
-/// Takes an answer that nothing stands against.
+/// Takes an answer that isn't refused.
 fn taken<A: Allocator, S: SectorStore>(
     port: &mut Port<A, S>,
     tag: u8,

@@ -13,7 +13,7 @@ use sata_fis::{
     is_set_bits_status, is_tag,
 };
 
-/// Reads a FIS. The payload of a Data FIS stands after its first four bytes.
+/// Reads a FIS. The payload of a Data FIS begins after its first four bytes.
 pub fn fis_decode(bytes: &[u8], fis: &mut FlatFis) -> Status
     ensures { AnswersDecode bytes.now result fis.old fis.new }
 {

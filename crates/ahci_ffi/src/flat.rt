@@ -63,7 +63,7 @@ pub struct FlatEntry {
     pub error: u32,
 }
 
-/// All that can be seen of a port at once. What stands by tag has 32 places.
+/// All that can be seen of a port at once. What is by tag has 32 places.
 #[repr(C)]
 #[derive(Clone, Copy, Debug, PartialEq, Eq)]
 pub struct FlatState {

@@ -1,4 +1,4 @@
-//! The pages that a disk tells of itself, of any numbers, with no port.
+//! The pages in which a disk describes itself, of any numbers, with no port.
 
 ghost use Rattle.std.specs.Prelude.{◌≡◌, length};
 ghost use Rattle.ncq_core.specs.{Identify.{identify_page}, Log.{log_page}};

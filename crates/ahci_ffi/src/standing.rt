@@ -67,7 +67,7 @@ fn word<A: Allocator, S: SectorStore>(port: &Port<A, S>, register: Register) -> 
 {
     match port.register(register.offset()) {
         Ok(word) => word,
-        // It stands at its offset.
+        // It is at its offset.
         Err(_) => unreachable!(),
     }
 }

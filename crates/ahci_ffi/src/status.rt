@@ -39,7 +39,7 @@ pub enum Status {
     BadStatus,
     /// The payload of a Data FIS is not 4 to 8,192 bytes, a multiple of 4.
     BadPayload,
-    /// An event that can't come where it stands.
+    /// An event that can't come at its place.
     NotAllowed,
     /// The controller can't take the step now.
     NotReady,

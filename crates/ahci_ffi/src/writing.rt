@@ -12,7 +12,7 @@ use sector_store::SectorStore;
 use std::alloc::Allocator;
 
 /// Takes a word that a driver writes to the register at an offset. A newly set bit of PxCI issues the command of that slot: its
-/// header stands in `list`, and its window in a 32nd part of `windows`. `done` tells what the write did, and of a command that
+/// header is in `list`, and its window in a 32nd part of `windows`. `done` reports what the write did, and of a command that
 /// was not issued its slot.
 pub fn write_register<A: Allocator + Clone, S: SectorStore>(
     port: &mut Port<A, S>,
@@ -67,7 +67,7 @@ fn flat_written(did: Written) -> FlatWritten
     FlatWritten { did, slots, tag }
 }
 
-/// What is told of a write that was refused, where this stood before.
+/// What is reported of a write that was refused, if this was there before.
 fn flat_refused(fault: WriteFault, before: FlatWritten) -> FlatWritten
     ensures { result ≡ flat_refused fault before }
 {

@@ -1,4 +1,4 @@
--- What is kept of the requests of all tags while a journal is told as a script.
+-- What is kept of the requests of all tags while a journal is reported as a script.
 use Rattle.std.specs.Prelude.{◌≡◌, ◌<◌, ℕ, List}
 use Rattle.std.specs.List.{slice_index_or}
 use Rattle.ncq_journal.specs.Entry.{Entry}

@@ -54,7 +54,7 @@ entry_command issued (Reissue tag) = Some (command.Reissue tag)
 entry_command issued (Collect tag) = Some (collect_command (issued tag) tag)
 entry_command issued (Unqueued command) = unqueued_command command
 
--- a command as it is printed; a comment stands for none
+-- a command as it is printed; none is a comment
 abbrev pub command_line : Option ScriptCommand → List ℕ
 command_line None = codes "# READ LOG EXT"
 command_line (Some command) = printed command
@@ -72,7 +72,7 @@ unfoldable pub script_text : PortView → List ℕ
 script_text port =
     (printed (command.Disk (sectors_in port) port.depth None) ++ 10 ∷ []) ++ entry_lines (sectors_in port) port.past
 
--- each line of a script that tells a journal is read as the command of its entry, if the numbers are in their ranges, and the
+-- each line of a script that reports a journal is read as the command of its entry, if the numbers are in their ranges, and the
 -- comment is passed over
 abbrev pub AreLinesRead : Type 0
 AreLinesRead = (issued : ℕ → Issued) (entry : Entry) → MatchOption (entry_command issued entry)

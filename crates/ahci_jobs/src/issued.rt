@@ -1,7 +1,7 @@
 use ncq_journal::Op;
 use std::alloc::Allocator;
 
-/// What is kept of the request of a tag while a journal is told as a script.
+/// What is kept of the request of a tag while a journal is written as a script.
 #[derive(Clone, Copy, Debug, PartialEq, Eq)]
 pub(crate) struct Issued {
     /// The place of its Issue entry.

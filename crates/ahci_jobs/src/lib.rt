@@ -1,4 +1,4 @@
-//! Job lists: read from any reader, done by workers on threads, and told to any writer.
+//! Job lists: read from any reader, done by workers on threads, and reported to any writer.
 #![tactic(auto)]
 
 mod form;

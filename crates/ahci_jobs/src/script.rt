@@ -110,7 +110,7 @@ fn entry_command<A: Allocator>(
     }
 }
 
-/// Appends the line of an entry of a journal, of whose tags this is kept. A comment stands for READ LOG EXT.
+/// Appends the line of an entry of a journal, of whose tags this is kept. READ LOG EXT is a comment.
 fn push_entry<A: Allocator, B: Allocator>(
     text: &mut TextBuffer<A>,
     kept: &[Issued; TAGS],

@@ -32,7 +32,7 @@ last_of_parts (Reissue t ∷ later) past P some = last_of_parts later past P som
 last_of_parts (Collect t ∷ later) past P some = last_of_parts later past P some
 last_of_parts (Unqueued command ∷ later) past P some = last_of_parts later past P some
 
--- the error that stands after both parts is that of the later one
+-- the error condition after both parts is that of the later one
 standing_of_parts : (s d : ℕ) (later past : List Entry) → d ≤ 32 → IsLawful s d later → AllFree past → standing (later ++ past) ≡ standing later
 standing_of_parts s d later past few own free = ap (λ b. cond b (last_failure (later ++ past)) None) (halted_parts later past free) ∙ by (halted later) refl
   where

@@ -22,7 +22,7 @@ use Rattle.ahci_port.specs.Unqueued.{cfis_for}
 use Rattle.ncq_core.specs.declared.taken.Taken.TheVariants as taken
 use Rattle.ahci_port.proofs.FailureLemmas.{failed_tag}
 
--- while an error stands, a command changes nothing
+-- during an error condition a command changes nothing
 pub stopped_state : (disk : DiskState) (bytes : List ℕ) → is_stopped disk ≡ true → (verdict disk bytes).state ≡ disk
 stopped_state disk bytes stopped =
     ap (λ b. (cond b (stopped_verdict disk (command_in bytes)) (running_verdict disk (command_in bytes))).state) stopped ∙ by (command_in bytes)
@@ -72,6 +72,6 @@ pub whole_write : {X : Type 0} (items after : List X) (len : ℕ) → len ≡ le
 whole_write items after len l a =
     ap (λ xs. take len (after ++ xs)) (drop_all (length after) items (omega arith)) ∙ ap (take len) (append-nil after) ∙ take_all len after (omega arith)
 
--- the command that reads the log is let through while an error stands
+-- the command that reads the log is let through during an error condition
 pub log_passes : (disk : DiskState) → is_stopped disk ≡ true → (verdict disk (cfis_for plain.ReadLog)).answer ≡ taken.Plain plain.ReadLog
 log_passes disk stopped = ap (λ b. (cond b (stopped_verdict disk (command_in (cfis_for plain.ReadLog))) (running_verdict disk (command_in (cfis_for plain.ReadLog)))).answer) stopped

@@ -45,7 +45,7 @@ held_is : (p : Phase) → is_held p ≡ true → p ≡ Held
 held_is Held e = refl
 held_is _ e = absurd (false≢true e)
 
--- where nothing stands against a call: what would refuse it doesn't hold, and what it needs does
+-- where nothing refuses a call: what would refuse it doesn't hold, and what it needs does
 pub no_reason : {F : Type 0} (against needed : Bool) (x y : F) → cond against (Some x) (cond needed None (Some y)) ≡ None → (against ≡ false) × (needed ≡ true)
 no_reason true needed x y e = absurd (cc)
 no_reason false true x y e = (refl, refl)

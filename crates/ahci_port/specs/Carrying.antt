@@ -13,7 +13,7 @@ use Rattle.ncq_journal.specs.declared.plain.Plain.TheVariants.{Identify, Flush, 
 use Rattle.ahci_port.specs.PortView.{pio_place, put_at, register_place}
 use Rattle.ahci_port.specs.Registers.{after_write, read_data}
 
--- the device lets the command through: the log while an error stands, and the others while none does and nothing is
+-- the device lets the command through: the log during an error condition, and the others while there is none and nothing is
 -- outstanding
 abbrev pub Passes : Plain → DiskState → Type 0
 Passes ReadLog disk = is_stopped disk ≡ true

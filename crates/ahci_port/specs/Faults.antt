@@ -181,7 +181,7 @@ abbrev pub Answers : {T E : Type 0} → Result T E → Option E → Type 0
 Answers r None = IsOk r
 Answers r (Some fault) = r ≡ Err fault
 
--- the same of a call that takes memory, and may lack it where nothing else stands against it
+-- the same of a call that takes memory, and may lack it if nothing else refuses it
 abbrev pub AnswersOr : {T E : Type 0} → Result T E → Option E → E → Type 0
 AnswersOr r None lacking = IsOkUnless r lacking
 AnswersOr r (Some fault) lacking = r ≡ Err fault

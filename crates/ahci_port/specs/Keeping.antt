@@ -39,7 +39,7 @@ abbrev pub HasSlot : List ℕ → List Entry → ℕ → Option SlotState → Ty
 HasSlot starting past tag None = phase past tag ≡ Free
 HasSlot starting past tag (Some slot) = Holds starting past tag slot
 
--- the header of an owned slot's window stands in the command list
+-- the header of an owned slot's window is in the command list
 abbrev pub HasHeader : List (List ℕ) → ℕ → Option SlotState → Type 0
 HasHeader headers tag None = Unit {0}
 HasHeader headers tag (Some slot) = slice_index_or headers tag [] ≡ slot.window.header

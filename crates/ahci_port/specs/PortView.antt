@@ -38,7 +38,7 @@ pub record PortView : Type 0 where
   pub area : List ℕ
   -- by tag, the window of each slot that is owned
   pub windows : List (Option WindowState)
-  -- the tags that are outstanding in the device, and the error that stands in it
+  -- the tags that are outstanding in the device, and its error condition
   pub device : List Bool
   pub error : Option DiskError
 

@@ -1,4 +1,4 @@
--- The error that stands in the device after a journal.
+-- The error condition of the device after a journal.
 use Rattle.std.specs.Prelude.{List, [], ◌∷◌, Option, None, Some, if◌then◌else◌}
 use Rattle.ncq_core.specs.DiskState.{DiskError}
 use Rattle.ncq_journal.specs.Entry.{Entry, Fail}
@@ -10,6 +10,6 @@ last_failure [] = None
 last_failure (Fail tag error lba ∷ past) = Some (record { tag = tag; error = error; lba = lba })
 last_failure (entry ∷ past) = last_failure past
 
--- it stands until the port recovers
+-- it lasts until the port recovers
 abbrev pub standing : List Entry → Option DiskError
 standing past = if halted past then last_failure past else None

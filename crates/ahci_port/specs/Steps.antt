@@ -1,5 +1,5 @@
 -- What each call of the port does, where it is taken: one entry is appended to the journal, or a Complete for each tag that
--- is served; the registers move by the writes and FISes of the call, and its FISes stand at their places in the received
+-- is served; the registers move by the writes and FISes of the call, and its FISes are at their places in the received
 -- FIS area.
 use Rattle.std.specs.Prelude.{◌≡◌, ◌≢◌, ℕ, ◌+◌, ◌<◌, ◌≤◌, max, Bool, true, false, ◌&&◌, nat_lt, List, [], ◌∷◌, ◌++◌, length, take, Option, None, Some, IsSomeAnd, slice_index, slice_set}
 use Rattle.std.specs.List.{fold}
@@ -70,7 +70,7 @@ pub record ReservesRoom (old new : PortView) : Type 0 where
 abbrev pub answer_to : PortView → ℕ → Option Answer
 answer_to port number = option_map (answer_numbered port.first) (option_and_then (answer port.starting port.past) (place_of port.first number))
 
--- a window is issued: it stands in its slot
+-- a window is issued: it is in its slot
 pub record IsIssued (w : WindowState) (old new : PortView) : Type 0 where
   pub appended : Appends old new (Issue w.tag (op w))
   pub room : ReservesRoom old new

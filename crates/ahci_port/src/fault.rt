@@ -154,7 +154,7 @@ impl From<AllocError> for PlainFault {
 /// Why a write to a register was not taken. Of each register the cases are tested in this order.
 #[derive(Clone, Copy, Debug, PartialEq, Eq)]
 pub enum WriteFault {
-    /// By the register table: no register stands at the offset, or FRE would be cleared, or PxCLB or PxFB moved.
+    /// By the register table: there is no register at the offset, or FRE would be cleared, or PxCLB or PxFB moved.
     Register(RegFault),
     /// PxSACT or PxCI, while a command has failed and the port has not recovered.
     Halted,

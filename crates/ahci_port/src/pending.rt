@@ -1,7 +1,7 @@
 ghost use Rattle.std.specs.Prelude.{◌≡◌};
 ghost use Rattle.ahci_port.specs.Writes.{nothing_pending};
 
-/// What software has written by `Port::write_register` of which the port's own registers tell nothing yet.
+/// What software has written by `Port::write_register` of which the port's own registers show nothing yet.
 #[derive(Clone, Copy, Debug, PartialEq, Eq)]
 pub struct Pending {
     /// The bits of PxSACT whose bits of PxCI are to follow.
@@ -11,7 +11,7 @@ pub struct Pending {
 }
 
 impl Pending {
-    /// Nothing: what stands before the first write.
+    /// Nothing: what is there before the first write.
     pub fn nothing() -> Self
         ensures { result ≡ nothing_pending }
     {

@@ -254,7 +254,7 @@ impl<A: Allocator, S: SectorStore> Port<A, S> {
     }
 
     /// The word that a read of the register at an offset gives (AHCI 1.3.1, sections 3.1 and 3.3): `Unaligned` where the
-    /// offset isn't a multiple of 4, `NoSuchRegister` where no register of this model stands.
+    /// offset isn't a multiple of 4, `NoSuchRegister` if this model has no register there.
     pub fn register(&self, off: u32) -> Result<u32, RegFault>
         ensures { result ≡ read_of self.now.registers off }
     {

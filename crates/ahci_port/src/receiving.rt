@@ -1,4 +1,4 @@
-//! How the port receives the device's FISes: each stands at its place in the received FIS area (AHCI 1.3.1, section
+//! How the port receives the device's FISes: each goes to its place in the received FIS area (AHCI 1.3.1, section
 //! 4.2.1), and its fields move the registers.
 
 ghost use Rattle.std.specs.Prelude.{◌≡◌, ◌+◌, ◌<◌, ◌≤◌, length};

@@ -55,7 +55,7 @@ fn outcome_of(is_write: bool) -> Outcome
 }
 
 impl<A: Allocator> Slot<A> {
-    /// A command that is issued, whose entry stands at a place of the journal.
+    /// A command that is issued, whose entry is at a place of the journal.
     pub(crate) fn issued(place: u64, command: Command, window: Window<A>) -> Self
         requires fit { IsFit window }
         requires list { command.pieces.items ≡ pieces window }

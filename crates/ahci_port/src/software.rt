@@ -13,10 +13,10 @@ const FRE: u32 = 0x10;
 /// ST of PxCMD.
 const ST: u32 = 0x01;
 
-/// Where the command list stands.
+/// The address of the command list.
 const COMMAND_LIST: u32 = 0x0001_0000;
 
-/// Where the received FIS area stands.
+/// The address of the received FIS area.
 const RECEIVED_AREA: u32 = 0x0001_0400;
 
 /// Every bit of a register in which a 1 clears.

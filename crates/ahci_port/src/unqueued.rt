@@ -1,4 +1,4 @@
-//! Commands that are not queued: they stand in slot 0, over a command table of their own (AHCI 1.3.1, sections 4.2.2 and
+//! Commands that are not queued: they are issued in slot 0, over a command table of their own (AHCI 1.3.1, sections 4.2.2 and
 //! 4.2.3).
 
 ghost use Rattle.std.specs.Prelude.{◌≡◌};
@@ -116,7 +116,7 @@ fn receive<S: SectorStore>(
     }
 }
 
-/// Carries a command out by slot 0: it is sent, and what the device answers is received. The header of the window that stands
+/// Carries a command out by slot 0: it is sent, and what the device answers is received. The header of the window that is
 /// in slot 0 is put aside meanwhile.
 pub(crate) fn carry_out<S: SectorStore>(
     plain: Plain,

@@ -1,4 +1,4 @@
--- Where the registers stand, and what they are called (AHCI 1.3.1, sections 3.1 and 3.3). The registers of the port begin at 100h.
+-- The places of the registers, and their names (AHCI 1.3.1, sections 3.1 and 3.3). The registers of the port begin at 100h.
 use Rattle.std.specs.Prelude.{ℕ, ◌%◌, List, [], ◌∷◌, Result, Err, nat_eq, find, ok_or, if◌then◌else◌, codes}
 use Rattle.ahci_regs.specs.declared.fault.RegFault.{RegFault}
 use Rattle.ahci_regs.specs.declared.fault.RegFault.TheVariants.{Unaligned, NoSuchRegister}

@@ -8,7 +8,7 @@ use std::fmt::{Display, Formatter, Write};
 pub enum RegFault {
     /// The offset isn't a multiple of 4.
     Unaligned,
-    /// No register of this model stands at the offset.
+    /// This model has no register at the offset.
     NoSuchRegister,
     /// A write of PxSACT or PxCI while PxCMD.ST is 0.
     NotStarted,

@@ -1,4 +1,4 @@
-//! What follows from the contracts of `PortRegs`. The functions change nothing: each stands for its clauses.
+//! What follows from the contracts of `PortRegs`. The functions change nothing: each is there for its clauses.
 ghost use Rattle.std.specs.Prelude.{◌≡◌, ◌≤◌, ℕ, Bool, true, false, bit_or, IfOk};
 ghost use Rattle.word_bits.specs.Places.{bits, has_place, no_places};
 ghost use Rattle.ahci_regs.specs.PortState.{PortState};

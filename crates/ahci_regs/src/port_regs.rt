@@ -69,7 +69,7 @@ impl PortRegs {
 
     /// The word that a read of the register at an offset gives (AHCI 1.3.1, sections 3.1 and 3.3). The offset is in
     /// bytes from the beginning of the HBA's registers: `Unaligned` where it isn't a multiple of 4, `NoSuchRegister`
-    /// where no register of this model stands.
+    /// if this model has no register there.
     #[tactic(auto, using(word_bits::proofs::BitsLemmas::words_back))]
     pub fn read(&self, off: u32) -> Result<u32, RegFault>
         ensures { result ≡ read_of self.now off }

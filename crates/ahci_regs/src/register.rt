@@ -127,7 +127,7 @@ impl Register {
         }
     }
 
-    /// The register at an offset: `Unaligned` where it isn't a multiple of 4, else `NoSuchRegister` where none stands.
+    /// The register at an offset: `Unaligned` where it isn't a multiple of 4, else `NoSuchRegister` if there is none.
     #[tactic(auto, unfolding(crate::specs::RegisterTable::register_at))]
     #[inline(always)]
     pub fn at(off: u32) -> Result<Register, RegFault>

@@ -14,7 +14,7 @@ use Rattle.ahci_script.specs.Said as says
 use Rattle.ahci_replay.specs.Commands.{AnswersWindow, is_issued, is_refused, issue_said}
 use Rattle.port_refusal.specs.declared.refusal.Refusal.{Refusal}
 
--- what came of an issue is told so
+-- what came of an issue is reported so
 pub told_answer : (T E : Type 0) (say : T → Said) (w : WindowState) (old new : PortView) (issued : Result ℕ (WindowState × IssueFault)) (o : Result T E)
     → OnOk issued (IsIssued w old new) → OnOk issued (MayTake old w.tag × IsFit w) → IfOk issued (λ n. n ≡ next_number old)
     → IfErr issued (λ e. RefusesIssue old w e.1) → IfErr issued (λ e. (e.0 ≡ w) × (new ≡ old))

@@ -20,7 +20,7 @@ skip_grown number port text old is = record {
   grown = sym (append-nil old);
 }
 
--- a line with a command may stand where its command may
+-- a line with a command is allowed where its command is
 command_placed : (port : Option PortView) (text : List ℕ) (command : ScriptCommand) → line_of text ≡ Some (line.Run command)
     → placed port text ≡ cond (is_in_place port command) (Some (line.Run command)) None
 command_placed port text command is = ap (option_and_then (placed_by port)) is
@@ -62,7 +62,7 @@ fault_of_line (Err Read) port text command n is fault = fault
 fault_of_line (Err Write) port text command n is fault = fault
 fault_of_line (Err OutOfMemory) port text command n is fault = fault
 
--- a line with a command that may not stand there is refused as the command is
+-- a line with a command that isn't allowed there is refused as the command is
 pub wrong_line : (result : Result (Unit {0}) ScriptFault) (fault : ScriptFault) (port : Option PortView) (text : List ℕ) (command : ScriptCommand)
     → line_of text ≡ Some (line.Run command) → (is_in_place port command ≡ false → result ≡ Err fault) → placed port text ≡ None → result ≡ Err fault
 wrong_line result fault port text command is told none =

@@ -60,7 +60,7 @@ pub nothing_stands_against : {F : Type 0} (T : Type 0) (f lacking : F) (o : Opti
 nothing_stands_against T f lacking None show is none = refl
 nothing_stands_against T f lacking (Some g) show is none = let same : g ≡ f = cc in ap show same ∙ none
 
--- a disk against whose numbers nothing stands
+-- a disk whose numbers nothing refuses
 pub disk_made : (sectors depth : ℕ) (first : Option ℕ) → nat_eq sectors 0 ≡ false → nat_lt most_disk_sectors sectors ≡ false → nat_eq depth 0 ≡ false → nat_lt most_depth depth ≡ false
     → nat_lt most_first (unwrap_or first 0) ≡ false → disk_refusal sectors depth first ≡ None
 disk_made sectors depth first = by (nat_eq sectors 0) (nat_lt most_disk_sectors sectors) (nat_eq depth 0) (nat_lt most_depth depth) (nat_lt most_first (unwrap_or first 0))

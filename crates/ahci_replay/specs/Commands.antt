@@ -48,7 +48,7 @@ pub data AnswersWindow (window : WindowState) (old new : PortView) (said : Said)
   is_issued : MayTake old window.tag → IsFit window → IsIssued window old new → said ≡ says.Issued (next_number old) → AnswersWindow window old new said
   is_refused : (fault : IssueFault) (name : Refusal) → RefusesIssue old window fault → of_issue fault ≡ Some name → new ≡ old → said ≡ says.Refused name → AnswersWindow window old new said
 
--- what an issue is told as; nothing where memory was wanting
+-- what an issue is reported as; nothing where memory was wanting
 abbrev pub issue_said : Result ℕ (WindowState × IssueFault) → Option Said
 issue_said (Ok number) = Some (says.Issued number)
 issue_said (Err e) = option_map says.Refused (of_issue e.1)
@@ -90,7 +90,7 @@ pub record HasRecovered (old new : PortView) (said : Said) : Type 0 where
   pub recovered : IsRecovered tag old new
   pub told : said ≡ says.Recovered tag
 
--- word w of a page stands in two bytes, the low one first
+-- word w of a page is in two bytes, the low one first
 abbrev pub word_in : List ℕ → ℕ → ℕ
 word_in page w = slice_index page (2 * w) + 256 * slice_index page (2 * w + 1)
 
@@ -130,14 +130,14 @@ MakesDisk (Some refusal) sectors depth first new said = (new ≡ None) × (said 
 MakesDisk None sectors depth first new said =
     (new ≡ Some (port_from (unwrap_or first 0) (replicate (sectors * 512) 0) depth)) × (said ≡ says.Disk sectors depth first)
 
--- a command may stand here: a disk first, and then none
+-- a command is allowed here: a disk first, and then none
 abbrev pub is_in_place : Option PortView → ScriptCommand → Bool
 is_in_place None (command.Disk sectors depth first) = true
 is_in_place None c = false
 is_in_place (Some port) (command.Disk sectors depth first) = false
 is_in_place (Some port) c = true
 
--- a command was run where it may stand: the port before it, the port that it leaves, and its answer
+-- a command was run where it is allowed: the port before it, the port that it leaves, and its answer
 abbrev pub Runs : Option PortView → ScriptCommand → Option PortView → Said → Type 0
 Runs None (command.Disk sectors depth first) new said = MakesDisk (disk_refusal sectors depth first) sectors depth first new said
 Runs (Some old) c (Some new) said = RunsOn old c new said
@@ -152,7 +152,7 @@ abbrev pub MayRun : Option PortView → ScriptCommand → Option PortView → Ty
 MayRun (Some old) c (Some new) = MayRunOn old c new
 MayRun old c new = new ≡ old
 
--- a command may lack memory: one that takes some, and that nothing stands against which is looked at before. The others never
+-- a command may lack memory: one that takes some, and that nothing refuses which is looked at before. The others never
 -- lack any
 abbrev pub MayLackOn : PortView → ScriptCommand → Type 0
 MayLackOn port (command.Write tag lba sectors fill) = refusal_on port (command.Write tag lba sectors fill) ≡ None

@@ -1,4 +1,4 @@
--- Where a script stands.
+-- The place of a script.
 use Rattle.std.specs.Prelude.{ℕ, Bool, List, Option}
 use Rattle.ahci_port.specs.PortView.{PortView}
 

@@ -16,12 +16,12 @@ use Rattle.ahci_script.specs.declared.line.Line.{Line}
 use Rattle.ahci_script.specs.declared.line.Line.TheVariants as line
 use Rattle.ahci_port.specs.PortView.{PortView}
 
--- the command of a line may stand here
+-- the command of a line is allowed here
 abbrev pub is_placed : Option PortView → Line → Bool
 is_placed port line.Skip = true
 is_placed port (line.Run command) = is_in_place port command
 
--- a line that may stand here
+-- a line that is allowed here
 abbrev pub placed_by : Option PortView → Line → Option Line
 placed_by port l = if is_placed port l then Some l else None
 
@@ -38,7 +38,7 @@ Telling = ℕ → List ℕ → Said → Option PortView → Option PortView → 
 abbrev pub answers_alone : Telling
 answers_alone number line said old new = answer_text said ++ 10 ∷ []
 
--- a command was run, and this text tells its answer
+-- a command was run, and this text reports its answer
 pub record HasRun (telling : Telling) (number : ℕ) (line : List ℕ) (old : Option PortView) (command : ScriptCommand) (new : Option PortView) (text : List ℕ) : Type 0 where
   pub said : Said
   pub ran : Runs old command new said
@@ -177,13 +177,13 @@ WritesTo old new fault.Write = new.failed ≡ true
 WritesTo old new other = new ≡ with_flush old
 
 -- where a script ends early: a read failed, or a byte came after the limit, and the fault is that; or no read failed. A failed
--- write is told before a failed read
+-- write is reported before a failed read
 abbrev pub ReadsTo : ReadSoFar → ReadSoFar → ScriptFault → Type 0
 ReadsTo old new fault.Read = FailsReading new
 ReadsTo old new fault.Write = ⊤
 ReadsTo old new other = new.failed ≡ old.failed
 
--- the same where more is written after the script: output or memory that is wanting then is told before a failed read
+-- the same where more is written after the script: output or memory that is wanting then is reported before a failed read
 abbrev pub ReadsBefore : ReadSoFar → ReadSoFar → ScriptFault → Type 0
 ReadsBefore old new (fault.Line n) = new.failed ≡ old.failed
 ReadsBefore old new fault.Read = FailsReading new

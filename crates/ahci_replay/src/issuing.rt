@@ -117,7 +117,7 @@ fn issue_window<A: Allocator + Copy>(
     told(port.issue(window))
 }
 
-/// What an issue is told as.
+/// What an issue is reported as.
 fn told<A: Allocator>(
     issued: Result<u64, (Window<A>, IssueFault)>,
 ) -> Result<ScriptAnswer<A>, Unanswered>

@@ -32,7 +32,7 @@ pub(crate) fn answer_line<T: Teller<A>, A: Allocator + Copy>(
     }
 }
 
-/// Runs the command of a line of the given number, and has its answer told into the output.
+/// Runs the command of a line of the given number, and has its answer written into the output.
 fn answer_command<T: Teller<A>, A: Allocator + Copy>(
     session: &mut Session<A>,
     output: &mut Output<A>,

@@ -61,7 +61,7 @@ pub fn replay_with<T: Teller<A>, R: Read, W: Write, A: Allocator + Copy>(
     outcome
 }
 
-/// Runs a script of which nothing came yet, and tells how its reads and writes went.
+/// Runs a script of which nothing came yet, and returns how its reads and writes went.
 fn replay_script<'t, T: Teller<A>, R: Read, W: Write, A: Allocator + Copy>(
     alloc: A,
     script: &mut Script<'t, T, A>,

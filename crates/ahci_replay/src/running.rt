@@ -140,7 +140,7 @@ fn identify<A: Allocator + Copy>(
     }
 }
 
-/// A word of a page, whose low byte stands first.
+/// A word of a page, whose low byte comes first.
 fn word_in(page: &[u8; 512], word: u8) -> u16
     ensures { result ≡ word_in page.now word }
 {

@@ -1,4 +1,4 @@
-//! A script that runs: it takes lines, and tells their answers.
+//! A script that runs: it takes lines, and writes their answers.
 
 use crate::lines::answer_line;
 use crate::script_fault::ScriptFault;
@@ -9,7 +9,7 @@ use std::alloc::Allocator;
 use std::io::Write;
 use streams::{Found, TakesLines, Writes};
 
-/// A script that runs: what is answered and not yet written, how the writes went, the port, and who tells the answers.
+/// A script that runs: what is answered and not yet written, how the writes went, the port, and what writes the answers.
 #[derive(Drop)]
 pub(crate) struct Script<'t, T, A: Allocator> {
     pub(crate) output: Output<A>,

@@ -7,7 +7,7 @@ use streams::OutputFailed;
 /// Why a script ends before its last line.
 #[derive(Clone, Copy, Debug, PartialEq, Eq)]
 pub enum ScriptFault {
-    /// A line that is no line of the language, or stands where it may not.
+    /// A line that is no line of the language, or isn't allowed where it is.
     Line(u64),
     /// A read failed, or the input is longer than its limit.
     Read,

@@ -43,9 +43,9 @@ impl<A: Allocator + Copy> Session<A> {
     /// Runs a command, whose tag is below 32, and answers it.
     ///
     /// # Errors
-    /// `OutOfPlace` where the command stands before the disk, or is a second disk: then nothing changes. `OutOfMemory` where
+    /// `OutOfPlace` if the command comes before the disk, or is a second disk: then nothing changes. `OutOfMemory` where
     /// a growth was refused: then the port is as it was, or a read was collected and its bytes are lost. A command that takes
-    /// no memory never lacks any, and of a disk or a write a bad size, count or address is told before.
+    /// no memory never lacks any, and of a disk or a write a bad size, count or address is reported first.
     #[inline(always)]
     pub fn run(&mut self, command: ScriptCommand<'_>) -> Result<ScriptAnswer<A>, Unanswered>
         requires { HasSmallTag command }

@@ -1,10 +1,10 @@
-//! Who tells the answers of a script.
+//! What writes the answers of a script.
 
 use ahci_port::Port;
 use ahci_script::{Output, ScriptAnswer};
 use std::alloc::{AllocError, Allocator};
 
-/// Who tells the answers of a script. Contracts see the text as a function of the number and the text of the line that has the
+/// What writes the answers of a script. Contracts see the text as a function of the number and the text of the line that has the
 /// command, of what the answer says, of the port that the command has found and of the one that it has left.
 pub trait Teller<A: Allocator> {
     ghost use Rattle.std.specs.Prelude.{◌≡◌, ◌++◌, OnErr, OnOk, Option};
@@ -26,7 +26,7 @@ pub trait Teller<A: Allocator> {
     fn look(&self, port: Option<&Port<A>>) -> Self::Before
         ensures { IsOf result (option_copied port.entry) };
 
-    /// Puts the text for the answer of a command, which stands in a line of this number and has left this port, into the output.
+    /// Puts the text for the answer of a command, which is in the line of this number and has left this port, into the output.
     ///
     /// # Errors
     /// Where a growth was refused. The output is then as it was.

@@ -7,7 +7,7 @@ length_pairs [] = refl
 length_pairs (x ∷ []) = refl
 length_pairs (x ∷ y ∷ xs) = let rest = length_pairs xs in omega (arith, rest)
 
--- the byte at an index stands in two digits
+-- the byte at an index is in two digits
 pub pairs_at : (xs : List ℕ) (i : ℕ) → i < length (pairs_of xs)
     → get_or (pairs_of xs) i 0 ≡ 16 * hex_digit_value (get_or xs (2 * i) 0) + hex_digit_value (get_or xs (2 * i + 1) 0)
 pairs_at [] i h = absurd (omega (arith, h))

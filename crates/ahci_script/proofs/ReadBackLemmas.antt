@@ -25,7 +25,7 @@ use Rattle.ahci_script.proofs.TagsLemmas.{tags-back}
 then : {T U E : Type 0} (r : Result T E) (x : T) (f : T → Result U E) (y : Result U E) → r ≡ Ok x → f x ≡ y → (r >>= f) ≡ y
 then r x f y found next = ap (λ k. k >>= f) found ∙ next
 
--- and so does a word, where words stand after it
+-- and so does a word, where words come after it
 word : {T U : Type 0} {spelled : List ℕ → Result T Fault} {text : List ℕ} {value : T} (others : List ℕ) (f : T × Rest → Result U Breach) (y : Result U Breach)
     → Spells spelled text value → f (value, Some others) ≡ y → (word_of spelled (Some (before text others)) >>= f) ≡ y
 word {spelled} {text} {value} others f y s next = then (word_of spelled (Some (before text others))) (value, Some others) f y (word-before others s) next

@@ -14,11 +14,11 @@ abbrev pub ◌>>=◌ : {T U E : Type 0} → Result T E → (T → Result U E) �
 abbrev pub breach_at : List ℕ → Fault → Breach
 breach_at end fault = record { left = length end; fault = fault }
 
--- where the first byte over 127 stands
+-- the place of the first byte over 127
 abbrev pub high_byte : List ℕ → Option ℕ
 high_byte text = position (λ b. nat_le 128 b) text
 
--- where the first byte stands that no command has: a control byte, or one over 127
+-- the place of the first byte that no command has: a control byte, or one over 127
 abbrev pub is_odd : ℕ → Bool
 is_odd b = nat_lt b 32 || nat_le 127 b
 
@@ -34,7 +34,7 @@ abbrev pub begins_with_mark : List ℕ → Bool
 begins_with_mark (a ∷ b ∷ c ∷ rest) = a == 0xef && b == 0xbb && c == 0xbf
 begins_with_mark _ = false
 
--- a byte that no command has is told before all else
+-- a byte that no command has is reported before all else
 abbrev pub seen_at : Option ℕ → List ℕ → Breach → Breach
 seen_at None line found = found
 seen_at (Some at) line found = breach_at (drop at line) (odd_fault (slice_index line at))

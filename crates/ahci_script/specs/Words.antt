@@ -50,7 +50,7 @@ word_of spelled rest = do
   w ← next_of rest
   placed w.0 w.2 (spelled w.1)
 
--- what stands after the last word; an empty word is a space too many
+-- what comes after the last word; an empty word is a space too many
 abbrev pub spare : List ℕ → Breach
 spare [] = breach_at [] SpareSpace
 spare (b ∷ bs) = if b == 32 then breach_at (b ∷ bs) SpareSpace else breach_at (b ∷ bs) SpareWord

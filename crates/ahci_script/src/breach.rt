@@ -44,7 +44,7 @@ fn begins_with_mark(line: &[u8]) -> bool
     matches!(line, [0xef, 0xbb, 0xbf, ..])
 }
 
-/// Where the first byte stands that no command has: a control byte, or one over 127.
+/// The place of the first byte that no command has: a control byte, or one over 127.
 fn odd_byte(text: &[u8]) -> Option<usize>
     ensures { result ≡ odd_byte text.now }
 {
@@ -63,7 +63,7 @@ fn odd_fault(byte: u8) -> Fault
     }
 }
 
-/// Where the first byte over 127 stands.
+/// The place of the first byte over 127.
 pub(crate) fn high_byte(text: &[u8]) -> Option<usize>
     ensures { result ≡ high_byte text.now }
 {

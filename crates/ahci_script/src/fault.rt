@@ -9,7 +9,7 @@ pub enum Fault {
     UnknownCommand,
     /// The line ends before its last word.
     MissingWord,
-    /// A word stands after the last.
+    /// There is a word after the last.
     SpareWord,
     /// Two spaces, or a space at an end of the line.
     SpareSpace,

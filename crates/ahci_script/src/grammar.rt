@@ -1,4 +1,4 @@
-//! The grammar of scripts: each command's name, and the words that stand after it.
+//! The grammar of scripts: each command's name, and the words that follow it.
 
 ghost use Rattle.std.specs.Prelude.{◌≡◌, IfOk};
 ghost use Rattle.ahci_script.specs.Breaches.{comment_of};
@@ -13,7 +13,7 @@ use crate::tags::tags;
 use crate::words::{Words, first};
 
 /// Reads a line, without its line feed: what it spells; else the first rule of the language that it breaks, from the left. A
-/// byte that no command has, and in a comment one over 127, is told before all else.
+/// byte that no command has, and in a comment one over 127, is reported before all else.
 // Inline where a line is answered: its command then goes from its words to its call with no move.
 #[inline(always)]
 pub fn read_line(line: &[u8]) -> Result<Line<'_>, Breach>

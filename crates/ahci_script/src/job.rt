@@ -26,7 +26,7 @@ pub enum Job {
 }
 
 /// Reads a line of a job list, without its line feed: what it spells; else the first rule of the language that it breaks, from
-/// the left. A byte that no job has is told before all else.
+/// the left. A byte that no job has is reported before all else.
 pub fn read_job(line: &[u8]) -> Result<JobLine, Breach>
     ensures { result ≡ job_reading line.now }
 {

@@ -13,7 +13,7 @@ pub enum Line<'a> {
 }
 
 /// A command of a script. A tag is below 32, a list of tags has 1 to 32 of them, and sectors are at most 131,072; the other
-/// numbers are any that fit their type. The bytes of a window stand in the line that was read.
+/// numbers are any that fit their type. The bytes of a window are in the line that was read.
 #[derive(Debug, Drop)]
 pub enum ScriptCommand<'a> {
     /// `disk S D` or `disk S D F`: a new port over a disk of zeros, and F, the first number of its journal, where it is given.

@@ -59,7 +59,7 @@ impl<A: Allocator> Output<A> {
         Ok(())
     }
 
-    /// Appends an answer's text, its line feed, and notes that stand after it. After a refused growth no byte of them waits.
+    /// Appends an answer's text, its line feed, and notes that come after it. After a refused growth no byte of them waits.
     pub fn put_noted<B: Allocator>(
         &mut self,
         answer: &ScriptAnswer<B>,

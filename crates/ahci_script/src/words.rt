@@ -39,7 +39,7 @@ impl<'a> Words<'a> {
         Words { rest: None }
     }
 
-    /// The words after a space that stands in a text.
+    /// The words after a space in a text.
     pub(crate) fn after(text: &'a [u8], space: usize) -> Self
         requires { space < length text.now }
         ensures { result ≡ Some (drop (space + 1) text.now) }
@@ -207,7 +207,7 @@ fn cut(text: &[u8]) -> Option<(&[u8], &[u8])>
     Some((&text[..at], &text[at + 1..]))
 }
 
-/// Where the first space stands.
+/// The place of the first space.
 fn first_space(text: &[u8]) -> Option<usize>
     ensures { result ≡ position (λ b. b == 32) text.now }
 {
@@ -248,7 +248,7 @@ fn placed<'a, T: Drop>(
     }
 }
 
-/// What stands after the last word: an empty word is a space too many.
+/// What comes after the last word: an empty word is a space too many.
 fn spare(words: &[u8]) -> Breach
     ensures { result ≡ spare words.now }
 {

@@ -127,7 +127,7 @@ pieces_total n a s (suc k) =
     ∙ one_more n a (a * s) (a * k)
     ∙ ap (λ y. 512 * min (n - a * s) y) (sym (mul-suc a k))
 
--- nothing stands against them
+-- nothing refuses them
 pub default_pieces_serve : (n : ℕ) → 1 ≤ n → n ≤ most_sectors → list_refusal (default_list n) (512 * n) ≡ None
 default_pieces_serve n some most =
     let a = sectors_apiece n in

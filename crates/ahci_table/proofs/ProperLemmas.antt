@@ -1,4 +1,4 @@
--- Nothing stands against a proper command over the default pieces.
+-- Nothing refuses a proper command over the default pieces.
 use Rattle.std.proofs.Common.{◌≡◌, ℕ, ◌*◌, ◌%◌, ◌≤◌, Bool, true, false, not, ◌||◌, cond, nat_eq, length, Option, Some, None, ap, refl, arith}
 use Rattle.std.specs.Prelude.{◌^◌, nat_lt, nat_le}
 use Rattle.std.proofs.lemmas.Bool.{eq-eqb, eqb-true, le-ltb, lt-leb, true≢false}

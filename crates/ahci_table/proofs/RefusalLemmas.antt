@@ -1,4 +1,4 @@
--- What it says that nothing stands against a command with a list of pieces.
+-- What it says that nothing refuses a command with a list of pieces.
 use Rattle.std.proofs.Common.{◌≡◌, ℕ, ◌*◌, ◌%◌, ◌^◌, ◌<◌, ◌≤◌, ◌≢◌, zero, suc, Bool, true, false, not, cond, ◌||◌, nat_eq, ltb, leb, eq-eqb, inl, inr, List, [], ◌∷◌}
 use Rattle.std.proofs.Common.{length, Option, Some, None, ap, sym, refl, ◌∙◌, arith}
 use Rattle.std.specs.List.{All, list_any}

@@ -45,7 +45,7 @@ entry_for start p = dword (start + p.at) ++ dword 0 ++ dword 0 ++ dword (p.len -
 abbrev pub table_for : ℕ → Work → List Piece → List ℕ
 table_for tag work ps = h2d_bytes (h2d_for (queued_for tag work)) ++ replicate 108 0 ++ flat_map (entry_for (base tag)) ps
 
--- the data that stands in the window at first
+-- the data that is in the window at first
 abbrev pub data_for : Work → List ℕ
 data_for (Read lba sectors) = replicate (512 * sectors) 0
 data_for (Write lba bytes) = bytes

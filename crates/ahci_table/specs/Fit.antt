@@ -11,7 +11,7 @@ use Rattle.ahci_table.specs.Header.{header_of}
 use Rattle.ahci_table.specs.Prdt.{EntryFields, entry_of, table_end, pieces}
 use Rattle.ahci_table.specs.Command.{cfis, h2d, queued_of}
 
--- 1. the header is that of a queued command whose table, of 1 to 32 entries, stands in this window
+-- 1. the header is that of a queued command whose table, of 1 to 32 entries, is in this window
 pub record HasHeader (w : WindowState) : Type 0 where
   pub cfl : (header_of w).cfl ≡ 5
   pub a : (header_of w).a ≡ false

@@ -47,7 +47,7 @@ Commutes =
     → i + length xs ≤ length (text w) → j + length ys ≤ length (text w) → IsBeside i xs j ys
     → IsScattered w i xs a → IsScattered a j ys ab → IsScattered w j ys b → IsScattered b i xs ba → ab ≡ ba
 
--- nothing stands against the default pieces of a command whose count is one that a command can have
+-- the default pieces are right for a command whose count is one that a command can have
 abbrev pub DefaultsServe : Type 0
 DefaultsServe =
     (work : Work) → has_bad_count work ≡ false → list_refusal (default_list (sectors_of work)) (512 * sectors_of work) ≡ None

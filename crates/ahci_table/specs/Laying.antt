@@ -8,7 +8,7 @@ abbrev pub rises : ℕ → List Piece → Bool
 rises end [] = true
 rises end (p ∷ ps) = nat_le end p.at && rises (end_of p) ps
 
--- what stands from a place on: zeros up to each piece, and then its bytes of the text
+-- what is there from a place on: zeros up to each piece, and then its bytes of the text
 abbrev pub laid : ℕ → List Piece → List ℕ → List ℕ
 laid end [] text = []
 laid end (p ∷ ps) text = replicate (p.at - end) 0 ++ take p.len text ++ laid (end_of p) ps (drop p.len text)

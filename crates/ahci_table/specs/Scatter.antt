@@ -13,7 +13,7 @@ use Rattle.ahci_table.specs.Command.{cfis}
 abbrev pub in_some : ℕ → List Piece → Bool
 in_some x ps = list_any (covers x) ps
 
--- the bytes stand in the new window's text from the offset on, and all else is as it was
+-- the bytes are in the new window's text from the offset on, and all else is as it was
 pub record IsScattered (old : WindowState) (offset : ℕ) (from : List ℕ) (new : WindowState) : Type 0 where
   pub text_is : text new ≡ replaced offset from (text old)
   pub tag_is : new.tag ≡ old.tag

@@ -1,4 +1,4 @@
--- One tag's window: the command header that stands in the command list (AHCI 1.3.1, section 4.2.2) and the bytes of
+-- One tag's window: the command header that is in the command list (AHCI 1.3.1, section 4.2.2) and the bytes of
 -- memory from a fixed base on, which begin with the command table (section 4.2.3) and hold the data after it.
 use Rattle.std.specs.Prelude.{ℕ, ◌+◌, ◌*◌, List}
 

@@ -82,7 +82,7 @@ fn entry_for(start: u32, piece: &Piece) -> [u8; 16]
 }
 
 impl<A: Allocator> Window<A> {
-    /// The window of a command whose data stand in these pieces: header and command table with all reserved bits 0, a
+    /// The window of a command whose data are in these pieces: header and command table with all reserved bits 0, a
     /// write's bytes in the pieces, and zeros elsewhere. It ends where the piece that reaches furthest ends.
     ///
     /// # Errors
@@ -128,7 +128,7 @@ impl<A: Allocator> Window<A> {
         Ok((window, Command { queued, pieces }))
     }
 
-    /// The window of a command that nothing stands against.
+    /// The window of a command that isn't refused.
     fn written<B: Allocator>(
         alloc: A,
         tag: u8,
@@ -149,7 +149,7 @@ impl<A: Allocator> Window<A> {
     }
 }
 
-/// CFIS and what stands after it up to the PRDT: the command FIS, and zeros.
+/// CFIS and what follows it up to the PRDT: the command FIS, and zeros.
 fn table_head<A: Allocator>(mut bytes: Vec<u8, A>, fis: &[u8]) -> Result<Vec<u8, A>, AllocError>
     requires empty { bytes.items ≡ [] }
     requires len { length fis.now ≡ 20 }

@@ -1,4 +1,4 @@
-//! Moves between the outside and a window's text. The pieces of the text stand in the window's PRDT; who moves data more
+//! Moves between the outside and a window's text. The pieces of the text are in the window's PRDT; who moves data more
 //! than once reads them once, by `check`, and hands them in.
 
 ghost use Rattle.std.specs.Prelude.{◌≡◌, ◌+◌, ◌≤◌, length, take, drop, IfOk};

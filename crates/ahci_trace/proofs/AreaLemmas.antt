@@ -1,4 +1,4 @@
--- The received FIS area changes at the places of the FISes that are told.
+-- The received FIS area changes at the places of the FISes that are reported.
 use Rattle.std.proofs.Common.{◌≡◌, ◌⊎◌, ◌∙◌, ℕ, ◌+◌, ◌-◌, ◌<◌, ◌≤◌, Bool, true, false, cond, List, [], ◌∷◌, ◌++◌, Option, None, Some, length, take, drop, get_or, refl, inl, inr, ap, subst, length-append, arith}
 use Rattle.std.specs.Prelude.{◌==◌, IsSomeAnd, option_map}
 use Rattle.std.specs.List.{fold}
@@ -118,7 +118,7 @@ module _ (old new : PortView) (i : ℕ) (size : length old.area ≡ 256) (outsid
   abbrev Kept : Type 0
   Kept = Same new.area old.area i
 
-  -- no FIS that this entry tells has the byte
+  -- no FIS that this entry reports has the byte
   untold : (entry : Entry) (more : List Entry) → new.first ≡ old.first → new.past ≡ entry ∷ more → length old.past ≤ length more
       → ¬ (IsOfTold (received_by (Some (kind_of entry)) new) i)
   untold entry more first past grown = subst (λ n. ¬ (IsOfTold (received_by n new) i)) (told_by old new entry more first past grown) outside

@@ -28,7 +28,7 @@ newest_of end first words entry more below =
     is_more : nat_le (first + length (entry ∷ more)) end ≡ false
     is_more = grind (arith, nat_tests)
 
--- what is received is told by the entry that was appended last
+-- what is received is reported by the entry that was appended last
 pub told_by : (old new : PortView) (entry : Entry) (more : List Entry) → new.first ≡ old.first → new.past ≡ entry ∷ more → length old.past ≤ length more
     → newest (mark_of (Some old)) new.first new.past ≡ Some (kind_of entry)
 told_by old new entry more first past grown =

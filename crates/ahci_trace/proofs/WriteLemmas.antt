@@ -1,4 +1,4 @@
--- The writes that are told have moved the registers.
+-- The writes that are reported have moved the registers.
 use Rattle.std.proofs.Common.{◌≡◌, ◌∙◌, ℕ, ◌+◌, ◌<◌, ◌≤◌, Bool, true, false, cond, List, [], ◌∷◌, Option, None, Some, length, refl, sym, ap, subst, arith}
 use Rattle.std.specs.Prelude.{◌^◌, IsSomeAnd, nat_lt}
 use Rattle.std.proofs.lemmas.Bool.Decides.{nat_tests}

@@ -1,4 +1,4 @@
--- How a trace as JSON ends at a fault: after the objects of the lines before it stands an object that tells the fault.
+-- How a trace as JSON ends at a fault: after the objects of the lines before it comes an object that reports the fault.
 use Rattle.std.specs.Prelude.{◌≡◌, ℕ, List, [], ◌∷◌, ◌++◌, codes, Option, ⊤}
 use Rattle.std.specs.Io.KnownBytes.{Appends}
 use Rattle.streams.specs.Ends.{WrittenSoFar, with_failed_write, with_flush}
@@ -29,13 +29,13 @@ fault_object f = object (text_member (codes "fault") (fault_word f) ++ line_memb
 abbrev pub fault_line : ScriptFault → List ℕ
 fault_line f = print (fault_object f) ++ 10 ∷ []
 
--- one that is told: output and memory are not what is wanting
+-- one that is reported: output and memory are not what is wanting
 abbrev pub IsTold : ScriptFault → Type 0
 IsTold fault.Write = ⊥
 IsTold fault.OutOfMemory = ⊥
 IsTold f = ⊤
 
--- a fault is told, or there is no memory for that, or its write fails
+-- a fault is reported, or there is no memory for that, or its write fails
 abbrev pub TellsFault : ScriptFault → Option (List ℕ) → Option (List ℕ) → ScriptFault → Type 0
 TellsFault f before after fault.OutOfMemory = after ≡ before
 TellsFault f before after fault.Write = WritesPart before after (fault_line f)
@@ -47,7 +47,7 @@ TellWrites old new fault.OutOfMemory = new ≡ old
 TellWrites old new fault.Write = new ≡ with_failed_write old
 TellWrites old new g = new ≡ with_flush old
 
--- the end after a fault, and how the trace ends then: where output or memory is wanting, nothing more is told
+-- the end after a fault, and how the trace ends then: where output or memory is wanting, nothing more is reported
 abbrev pub Closes : ScriptFault → Option (List ℕ) → Option (List ℕ) → ScriptFault → Type 0
 Closes fault.Write before after g = (g ≡ fault.Write) × (after ≡ before)
 Closes fault.OutOfMemory before after g = (g ≡ fault.OutOfMemory) × (after ≡ before)

@@ -1,4 +1,4 @@
--- The writes that are told of a command have moved the port's registers, with what the device then sent.
+-- The writes that are reported of a command have moved the port's registers, with what the device then sent.
 use Rattle.std.specs.Prelude.{◌≡◌, ◌<◌, List, [], Option, Some}
 use Rattle.std.specs.List.{fold}
 use Rattle.ahci_port.specs.Carrying as port
@@ -29,7 +29,7 @@ Moves writes (Some (what.Recover tag)) old new = new ≡ read_data (after_writes
 Moves writes (Some (what.Plain command)) old new = new ≡ port.told command (after_writes old writes)
 Moves writes last old new = writes ≡ []
 
--- so do those that are told of what a command did between two ports
+-- so do those that are reported of what a command did between two ports
 abbrev pub ToldMove : PortView → PortView → Type 0
 ToldMove old new = Moves (told_between (Some old) (Some new)).writes (newest (mark_of (Some old)) new.first new.past) old.registers new.registers
 

@@ -42,12 +42,12 @@ bits_of PxCmd = command_bits
 bits_of PxTfd = task_file_bits
 bits_of register = []
 
--- what stands before a name: two spaces before the first
+-- what comes before a name: two spaces before the first
 abbrev pub separator : Bool → List ℕ
 separator false = codes "  "
 separator true = codes ", "
 
--- a bit's name where it is set; `any` says whether names stand before it
+-- a bit's name where it is set; `any` says whether names come before it
 abbrev pub name_text : Bool → List Bool → ℕ → List ℕ → List ℕ
 name_text any set place name = if has_place set place then separator any ++ name else []
 

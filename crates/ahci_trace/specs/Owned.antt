@@ -1,4 +1,4 @@
--- The slots that requests own, and where their commands stand.
+-- The slots that requests own, and the states of their commands.
 use Rattle.std.specs.Prelude.{Bool, not, List, map, filter}
 use Rattle.std.specs.List.{range_with_len}
 use Rattle.ahci_port.specs.PortView.{is_free}

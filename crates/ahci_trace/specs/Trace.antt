@@ -28,7 +28,7 @@ pub record Told : Type 0 where
   pub changes : List Change
   pub slots : List OwnedSlot
 
--- what the code's trace tells
+-- what the code's trace has
 abbrev pub told : {A : _} → CommandTrace A → Told
 told trace = record {
   entries = trace.entries.items;
@@ -40,7 +40,7 @@ told trace = record {
   slots = trace.slots.items;
 }
 
--- what there is to tell of a port, since the mark
+-- what there is to report of a port, since the mark
 abbrev pub told_of : Mark → PortView → Told
 told_of mark port = record {
   entries = new_entries mark port.first port.past;

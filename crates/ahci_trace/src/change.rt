@@ -17,7 +17,7 @@ pub struct Change {
     pub word: u32,
 }
 
-/// Whether a word stood there, and is this one.
+/// Whether there was a word, and it is this one.
 fn is_word(before: Option<u32>, word: u32) -> bool
     ensures { result ≡ is_word before word }
 {

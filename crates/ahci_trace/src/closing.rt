@@ -48,7 +48,7 @@ fn fault_line<A: Allocator + Copy>(alloc: A, fault: ScriptFault) -> Result<Vec<u
     Ok(text)
 }
 
-/// Tells a fault. Answers the fault, or what kept it from being told.
+/// Reports a fault. Answers the fault, or what kept it from being reported.
 fn tell_fault<W: Write, A: Allocator + Copy>(
     alloc: A,
     fault: ScriptFault,
@@ -69,7 +69,7 @@ fn tell_fault<W: Write, A: Allocator + Copy>(
     }
 }
 
-/// Ends a trace at a fault, with an object that tells it; where output or memory is wanting, with nothing. Answers the fault
+/// Ends a trace at a fault, with an object that reports it; where output or memory is wanting, with nothing. Answers the fault
 /// that the trace ends with.
 pub(crate) fn close<W: Write, A: Allocator + Copy>(
     alloc: A,

@@ -39,7 +39,7 @@ pub struct CommandTrace<A: Allocator = Global> {
 }
 
 impl<A: Allocator + Copy> CommandTrace<A> {
-    /// What there is to tell before the disk: nothing.
+    /// What there is to report before the disk: nothing.
     fn nothing(alloc: A) -> Self
         ensures { told result ≡ nothing_told }
     {

@@ -15,13 +15,13 @@ pub fn each_object_has_its_answer()
     ensures { HasObjects }
 {}
 
-/// What is told as received is all that has changed in the received FIS area: each byte that a command has changed there is one
-/// of a FIS that is told of it.
+/// What is reported as received is all that has changed in the received FIS area: each byte that a command has changed there is one
+/// of a FIS that is reported of it.
 pub fn all_that_changed_in_the_area_is_told()
     ensures { TellsReceived }
 {}
 
-/// The writes that are told of a command are those by which the port's registers have moved: after a command that was issued, now or
+/// The writes that are reported of a command are those by which the port's registers have moved: after a command that was issued, now or
 /// again, they are the registers before it after these writes; after a recovery, or a command that is not queued, after these
 /// writes and what the device then has sent.
 pub fn the_writes_that_are_told_have_moved_the_registers()

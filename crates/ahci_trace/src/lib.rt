@@ -1,5 +1,5 @@
-//! What each command of a script did to the port, told after its answer: the journal's new entries, the bytes that were sent
-//! and received, the registers that changed, and where the owned slots stand. The same as one JSON object for each command.
+//! What each command of a script did to the port, printed after its answer: the journal's new entries, the bytes that were sent
+//! and received, the registers that changed, and the states of the owned slots. The same as one JSON object for each command.
 #![tactic(auto)]
 
 mod appended;

@@ -15,12 +15,12 @@ pub(crate) fn word<A: Allocator>(port: &Port<A>, register: Register) -> u32
 {
     match port.register(register.offset()) {
         Ok(word) => word,
-        // A register stands at its own offset.
+        // A register is at its own offset.
         Err(_) => unreachable!(),
     }
 }
 
-/// What is kept of the port that a command finds, to tell later what the command has changed.
+/// What is kept of the port that a command finds, to report later what the command has changed.
 #[derive(Clone, Copy, Debug)]
 pub struct Mark {
     /// The number of the journal's next entry; 0 before the disk.

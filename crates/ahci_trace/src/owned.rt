@@ -5,7 +5,7 @@ use ahci_port::Port;
 use ncq_journal::Phase;
 use std::alloc::{AllocError, Allocator};
 
-/// A slot that a request owns, and where its command stands.
+/// A slot that a request owns, and the state of its command.
 #[derive(Clone, Copy, Debug)]
 pub struct OwnedSlot {
     pub tag: u8,

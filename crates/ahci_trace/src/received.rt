@@ -9,7 +9,7 @@ use ncq_journal::{EventKind, Phase, Plain};
 use std::alloc::Allocator;
 
 /// The FISes that a command has brought into the received FIS area, byte by byte (AHCI 1.3.1, section 4.2.1). Of a command
-/// that serves several tags the last DMA Setup FIS stands there alone; `CommandTrace::served` has them all.
+/// that serves several tags only the last DMA Setup FIS is there; `CommandTrace::served` has them all.
 #[derive(Clone, Copy, Debug)]
 pub struct Received {
     /// DMA Setup, at 00h.

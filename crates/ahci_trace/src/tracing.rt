@@ -1,4 +1,4 @@
-//! A script that is run and told: as lines, or as objects of JSON.
+//! A script that is run and traced: as lines, or as objects of JSON.
 
 ghost use Rattle.std.specs.Prelude.{IfErr, OnOk, ◌≡◌};
 ghost use Rattle.ahci_replay.specs.Transcript.{ReadsBefore, ReadsTo, Replayed, ReplayedTo, WritesTo};
@@ -58,7 +58,7 @@ pub fn trace_with<R: Read, W: Write, A: Allocator + Copy>(
 }
 
 /// Runs the script that the reader gives as `replay` does, and for each command writes one JSON object on a line: its answer,
-/// and what it did to the port. At a fault a last object tells it, where memory and output serve.
+/// and what it did to the port. At a fault a last object reports it, where memory and output serve.
 ///
 /// # Errors
 /// Those of `replay`.

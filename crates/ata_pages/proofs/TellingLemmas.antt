@@ -1,4 +1,4 @@
--- What the pages tell: each word of an identify page, and the fields of a log's page.
+-- What the pages report: each word of an identify page, and the fields of a log's page.
 use Rattle.std.proofs.Common.{◌≡◌, ◌∙◌, ℕ, zero, suc, ◌+◌, ◌-◌, ◌*◌, ◌<◌, ◌≤◌, ◌==◌, ◌&&◌, Bool, true, false, cond, refl, ap, List, [], ◌∷◌, map, arith, codes, nat_lt}
 use Rattle.std.specs.Int.{byte_at, from_le_bytes, w64}
 use Rattle.std.specs.List.{flat_map, list_all, range_with_len}

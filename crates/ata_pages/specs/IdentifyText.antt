@@ -16,7 +16,7 @@ shown byte = if is_within 0x20 0x7E byte then byte else 0x2E
 abbrev pub two_characters : List ℕ → ℕ → List ℕ
 two_characters page n = shown (slice_index page (2 * n + 1)) ∷ shown (slice_index page (2 * n)) ∷ []
 
--- the text that stands in so many words from the first on
+-- the text in so many words from the first on
 unfoldable pub characters : List ℕ → ℕ → ℕ → List ℕ
 characters page first count = flat_map (two_characters page) (range_with_len first count)
 

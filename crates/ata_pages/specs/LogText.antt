@@ -17,7 +17,7 @@ unl_of page = slice_index page 0 / 64 % 2
 abbrev pub tag_of : List ℕ → ℕ
 tag_of page = slice_index page 0 % 32
 
--- the six bytes of the LBA, whose halves stand apart
+-- the six bytes of the LBA, whose halves are apart
 abbrev pub lba_of : List ℕ → ℕ
 lba_of page =
     from_le_bytes w64 (

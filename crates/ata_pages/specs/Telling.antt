@@ -1,4 +1,4 @@
--- What the texts tell of the pages that a disk makes.
+-- What the texts say of the pages that a disk makes.
 use Rattle.std.specs.Prelude.{◌≡◌, ℕ, ◌^◌, ◌<◌, ◌≤◌, slice_index}
 use Rattle.ncq_core.specs.DiskState.{DiskError}
 use Rattle.ncq_core.specs.Identify.{identify_page, identify_word}

@@ -3,7 +3,7 @@ ghost use Rattle.ata_pages.specs.IdentifyText.{characters, shown};
 
 use std::fmt;
 
-/// The text that stands in words of an identify page.
+/// The text in words of an identify page.
 #[derive(Clone, Copy)]
 pub(crate) struct Characters<'a> {
     pub(crate) page: &'a [u8; 512],

@@ -1,4 +1,4 @@
-//! The pages that a disk tells of itself, as text: that of IDENTIFY DEVICE, and page 0 of log 10h.
+//! The pages in which a disk describes itself, as text: that of IDENTIFY DEVICE, and page 0 of log 10h.
 #![tactic(auto)]
 
 mod byte_lines;

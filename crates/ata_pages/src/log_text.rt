@@ -25,7 +25,7 @@ impl fmt::Display for LogText {
     }
 }
 
-/// The LBA of the failing sector, whose halves stand apart.
+/// The LBA of the failing sector, whose halves are apart.
 fn lba(page: &[u8; 512]) -> u64
     ensures { result ≡ lba_of page.now }
 {

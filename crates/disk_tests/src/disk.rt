@@ -36,7 +36,7 @@ const A_SECTOR: Link = Link {
     last: 516,
 };
 
-/// The FIS that tells which tags are completed: SActive has its low byte first.
+/// The FIS that says which tags are completed: SActive has its low byte first.
 static COMPLETIONS: [(u32, [u8; 8]); 4] = [
     (0x0000_0002, [0xA1, 0x40, 0x40, 0, 0x02, 0, 0, 0]),
     (0x0000_0107, [0xA1, 0x40, 0x40, 0, 0x07, 0x01, 0, 0]),

@@ -12,7 +12,7 @@ pub struct FlatHba {
     pub interrupt: u32,
     /// 1 if the disk can send its signature.
     pub sign: u32,
-    /// The queue depth that IDENTIFY DEVICE tells.
+    /// The queue depth in IDENTIFY DEVICE.
     pub depth: u32,
     /// By slot, the number of the next step with its command; 0 if there is none.
     pub next: [u8; 32],
@@ -50,6 +50,6 @@ pub struct FlatIdentity {
     pub firmware: [u8; 8],
     /// Model number.
     pub model: [u8; 40],
-    /// Nominal media rotation rate: 0 of a disk that doesn't tell it, 1 of one that doesn't rotate, or 1,025 to 65,534 revolutions a minute.
+    /// Nominal media rotation rate: 0 of a disk that doesn't report it, 1 of one that doesn't rotate, or 1,025 to 65,534 revolutions a minute.
     pub rotation: u32,
 }

@@ -34,7 +34,7 @@ fn is_rotation(rotation: u32) -> bool
     rotation <= 1 || (0x0401 <= rotation && rotation <= 0xFFFE)
 }
 
-/// Whether C names a disk so that IDENTIFY DEVICE can tell it.
+/// Whether C names a disk so that IDENTIFY DEVICE can name it.
 pub(crate) fn is_identity(flat: &FlatIdentity) -> bool
     ensures { result ≡ is_identity flat.now }
 {

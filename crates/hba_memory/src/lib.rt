@@ -1,7 +1,7 @@
 //! A command's data in the driver's memory: which runs of bytes a controller reads and writes there, and in which order (AHCI
 //! 1.3.1, section 4.2.3 "Command Table" and chapter 5 "Data Structures, Transport Layer and Link Layer").
 //!
-//! Memory is not touched here. `Scatter`, `Gather` and `TableReader` say which run comes next, and are handed its bytes or told that
+//! Memory is not touched here. `Scatter`, `Gather` and `TableReader` say which run comes next, and get its bytes or hear that
 //! they were written; so whoever has the memory copies.
 #![tactic(auto)]
 

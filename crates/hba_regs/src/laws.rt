@@ -1,4 +1,4 @@
-//! What follows from the contracts of `HbaRegs`. The functions change nothing: each stands for its clauses. A write is one of a
+//! What follows from the contracts of `HbaRegs`. The functions change nothing: each is there for its clauses. A write is one of a
 //! word to a register (`written`), which `words_are_written_to_their_registers` finds at the register's offset.
 ghost use Rattle.std.specs.Prelude.{◌≡◌, ◌≢◌, ◌+◌, ◌*◌, ◌/◌, ◌%◌, ◌^◌, ◌<◌, ◌≤◌, ℕ, Bool, true, false, not, ◌&&◌, ◌||◌};
 ghost use Rattle.word_bits.specs.Places.{bits, has_place, no_places, union, with_place};

@@ -1,4 +1,4 @@
-//! Tests of what no contract of `ahci_hba` says. They stand in a crate of their own, so that no other crate is proved twice.
+//! Tests of what no contract of `ahci_hba` says. They are in a crate of their own, so that no other crate is proved twice.
 #![tactic(auto)]
 
 #[cfg(test)]

@@ -66,7 +66,7 @@ fn each_word_after_power_on_is_that_of_the_table_in_every_size(rt: HostRuntime) 
     equal(&rt, 0x90, &last, &(0, 0, 0));
 }
 
-/// What software or the device does, and what then stands.
+/// What software or the device does, and the state then.
 #[derive(Clone, Copy)]
 enum Row {
     /// A word that is read at an offset.

@@ -1,5 +1,5 @@
 //! Tests of what no contract says, of the layouts of bits, registers, FISes and windows, over the public calls of `word_bits`,
-//! `ahci_regs`, `hba_regs`, `sata_fis` and `ahci_table`. They stand in a crate of their own, so that no other crate is proved twice.
+//! `ahci_regs`, `hba_regs`, `sata_fis` and `ahci_table`. They are in a crate of their own, so that no other crate is proved twice.
 #![tactic(auto)]
 
 #[cfg(test)]

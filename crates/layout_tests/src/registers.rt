@@ -66,7 +66,7 @@ fn each_register_of_a_new_port_has_the_value_of_the_table_and_other_offsets_none
     );
 }
 
-/// What software or the device does, and what then stands.
+/// What software or the device does, and the state then.
 #[derive(Clone, Copy)]
 enum Row {
     /// The port is made to receive FISes, and then to process commands.

@@ -42,7 +42,7 @@ is_disk_new image starting grows reserved depth none empty whole least most deep
   stands = λ e is. absurd (cc);
 }
 
--- an error stands, and no command is left
+-- there is an error condition, and no command is left
 pub is_disk_stopped : (image starting : List ℕ) (grows : Bool) (reserved : List Bool) (depth : ℕ) (commands none : List (Option QueuedFields)) (error : Option DiskError) (tag code lba : ℕ)
     → IsDisk (record { image = image; starting = starting; grows = grows; reserved = reserved; depth = depth; commands = commands; error = error }) → none ≡ no_commands
     → tag < 32 → code < 256 → lba < 2 ^ 48 → IsDisk (record { image = image; starting = starting; grows = grows; reserved = reserved; depth = depth; commands = none; error = Some (record { tag = tag; error = code; lba = lba }) })

@@ -1,4 +1,4 @@
--- The pages that the disk tells of itself: what a loop has written of them, and the sum of one.
+-- The pages in which the disk describes itself: what a loop has written of them, and the sum of one.
 use Rattle.std.proofs.Common.{◌≡◌, ℕ, ◌+◌, ◌-◌, ◌*◌, ◌%◌, ◌<◌, List, [], ◌∷◌, ◌++◌, length, take, drop, get_or, set, map, replicate, refl, ap, sym, ◌∙◌, arith, length-append, append_assoc, append-nil}
 use Rattle.std.proofs.lemmas.List.{drop-replicate, length-replicate, take_at, drop_at, set_at, replicate_more, length-map}
 use Rattle.std.proofs.lemmas.List.Sums.{sum_by_more, sum_by-append}

@@ -52,7 +52,7 @@ nothing_carried : (disk : DiskState) (bytes : List ℕ) (o : Option H2dFields) �
 nothing_carried disk bytes None is none = refl
 nothing_carried disk bytes (Some f) is none = absurd (none f ((command_is_spelled bytes f).0 is))
 
--- a command of a kind, while no error stands
+-- a command of a kind, while there is no error condition
 by_its_kind : (disk : DiskState) (bytes : List ℕ) (f : H2dFields) (o : Option QueuedFields) → disk.error ≡ None → Carries bytes f → queued_in f ≡ o → verdict disk bytes ≡ by_kind disk f o
 by_its_kind disk bytes f o runs its kind = while_running disk bytes runs ∙ ap (running_verdict disk) (carried bytes f its) ∙ ap (by_kind disk f) kind
 

@@ -1,5 +1,5 @@
 -- The queueing disk as contracts see it (ACS-3, "Native Command Queuing feature set"): an image, the command of each tag
--- or none, and the error that stands or none.
+-- or none, and the error condition or none.
 use Rattle.std.specs.Prelude.{◌≡◌, ℕ, ◌+◌, ◌*◌, ◌/◌, ◌%◌, ◌^◌, ◌<◌, ◌≤◌, Bool, true, false, ◌||◌, nat_eq, nat_lt, if◌then◌else◌, List, [], length, map, replicate, Option, None, Some, is_some, slice_index_or}
 use Rattle.std.specs.List.{range_with_len}
 use Rattle.sata_fis.specs.Fields.{QueuedFields}
@@ -42,7 +42,7 @@ command_of disk tag = slice_index_or disk.commands tag None
 abbrev pub outstanding : DiskState → List Bool
 outstanding disk = map is_some disk.commands
 
--- an error stands
+-- there is an error condition
 abbrev pub is_stopped : DiskState → Bool
 is_stopped disk = is_some disk.error
 

@@ -8,7 +8,7 @@ use Rattle.ncq_core.specs.DiskState.{DiskState, command_of, disk_sectors, is_res
 use Rattle.ncq_journal.specs.Image.{IsWrittenOver}
 use Rattle.sector_store.specs.Reserved.{AreReserved}
 
--- why a tag's command is not served: an error stands, or no command is outstanding at the tag
+-- why a tag's command is not served: there is an error condition, or no command is outstanding at the tag
 abbrev pub serve_fault : DiskState → ℕ → Option ServeFault
 serve_fault disk tag = if is_stopped disk then Some Stopped else (if is_some (command_of disk tag) then None else Some NotAccepted)
 

@@ -43,7 +43,7 @@ passed disk command = record { answer = taken.Plain command; state = disk }
 abbrev pub accepted : DiskState → QueuedFields → Verdict
 accepted disk q = record { answer = Accepted accepted_bytes; state = record disk { commands = slice_set disk.commands q.tag (Some q) } }
 
--- the disk once an error stands: it has ended every command
+-- the disk after an error: it has ended every command
 abbrev pub stopped_by : DiskState → DiskError → DiskState
 stopped_by disk e = record disk { commands = no_commands; error = Some e }
 
@@ -83,17 +83,17 @@ plain_verdict disk code =
     if code == 0xEC then idle_verdict disk plain.Identify
     else (if code == 0xEA then idle_verdict disk plain.Flush else aborted disk)
 
--- a command while no error stands
+-- a command while there is no error condition
 abbrev pub by_kind : DiskState → H2dFields → Option QueuedFields → Verdict
 by_kind disk f (Some q) = queued_verdict disk q
 by_kind disk f None = plain_verdict disk f.command
 
--- while no error stands; bytes that carry no command are refused
+-- while there is no error condition; bytes that carry no command are refused
 abbrev pub running_verdict : DiskState → Option H2dFields → Verdict
 running_verdict disk None = aborted disk
 running_verdict disk (Some f) = by_kind disk f (queued_in f)
 
--- while an error stands, only a READ LOG EXT for the page that tells it is let through
+-- during an error condition only a READ LOG EXT for the page that reports it is let through
 abbrev pub stopped_verdict : DiskState → Option H2dFields → Verdict
 stopped_verdict disk None = aborted disk
 stopped_verdict disk (Some f) = if is_read_log f then passed disk plain.ReadLog else aborted disk

@@ -34,7 +34,7 @@ IsFreeTag disk tag = (tag < disk.depth) × (command_of disk tag ≡ None)
 abbrev pub IsIdle : DiskState → Type 0
 IsIdle disk = (tag : ℕ) → command_of disk tag ≡ None
 
--- while an error stands: the log that tells it is let through, and everything else is refused with ABRT
+-- during an error condition: the log that reports it is let through, and everything else is refused with ABRT
 pub record WhileStopped : Type 0 where
   pub log :
       (disk : DiskState) (bytes : List ℕ) → IsSome disk.error → AsksForTheErrorLog bytes
@@ -43,7 +43,7 @@ pub record WhileStopped : Type 0 where
       (disk : DiskState) (bytes : List ℕ) → IsSome disk.error → ¬ (AsksForTheErrorLog bytes)
       → verdict disk bytes ≡ aborted disk
 
--- while none stands: a queued command is refused with ABRT where its tag is not free, and with IDNF where it passes the last
+-- while there is none: a queued command is refused with ABRT where its tag is not free, and with IDNF where it passes the last
 -- sector, which is an error; else it is accepted. IDENTIFY DEVICE (ECh) and FLUSH CACHE EXT (EAh) are let through where
 -- nothing is outstanding. All else is refused with ABRT
 pub record WhileRunning : Type 0 where

@@ -47,7 +47,7 @@ pub struct Disk<S: SectorStore = Single> {
     depth: u32,
     commands: [Option<Queued>; 32],
     error: Option<DiskError>,
-    /// What IDENTIFY DEVICE reads. It tells of the number of sectors and the depth alone, so it is made once.
+    /// What IDENTIFY DEVICE reads. It depends on the number of sectors and the depth alone, so it is made once.
     page: [u8; 512],
     /// Room in which a Data FIS is put together.
     room: [u8; DATA_FIS],
@@ -169,7 +169,7 @@ impl<S: SectorStore + Drop> Disk<S> {
 }
 
 impl<S: SectorStore> Disk<S> {
-    /// Whether an error stands. `read_log` ends it.
+    /// Whether there is an error condition. `read_log` ends it.
     pub fn stopped(&self) -> bool
         ensures { result ≡ is_stopped self.now }
     {
@@ -285,7 +285,7 @@ impl<S: SectorStore> Disk<S> {
         self.commands.get(usize::from(tag)).copied().flatten()
     }
 
-    /// Lets an error stand, which ends every command.
+    /// Enters an error condition, which ends every command.
     fn stop(&mut self, tag: u8, error: u8, lba: u64)
         requires tag { tag < 32 }
         requires lba { lba < 2 ^ 48 }
@@ -305,7 +305,7 @@ impl Disk {
         answers::pio_setup()
     }
 
-    /// The Set Device Bits FIS that tells that the commands of a word's tags are completed (Serial ATA, "Set Device Bits").
+    /// The Set Device Bits FIS that says that the commands of a word's tags are completed (Serial ATA, "Set Device Bits").
     pub fn completed(word: u32) -> [u8; 8]
         ensures { result ≡ completed_bytes word }
     {

@@ -1,5 +1,5 @@
 //! The queueing disk, which takes commands by their FISes and moves their data between its image and a host. Beside it
-//! stands everything of `ncq_journal`, under the same names: a user of the disk needs no other crate for the journal.
+//! is everything of `ncq_journal`, under the same names: a user of the disk needs no other crate for the journal.
 #![tactic(auto)]
 
 mod disk;

@@ -1,7 +1,7 @@
 /// Why a command of the disk is neither served nor failed. The cases are tested in this order.
 #[derive(Clone, Copy, Debug, PartialEq, Eq)]
 pub enum ServeFault {
-    /// An error stands.
+    /// There is an error condition.
     Stopped,
     /// No command is outstanding at the tag.
     NotAccepted,

@@ -1,4 +1,4 @@
-//! An allocator for tests. It passes each request on, counts requests and bytes, and refuses those that it is told to refuse.
+//! An allocator for tests. It passes each request on, counts requests and bytes, and refuses those that it has to refuse.
 #![tactic(auto)]
 
 mod counter;

@@ -23,7 +23,7 @@ pub struct Refusing<B: Allocator> {
 }
 
 impl<B: Allocator> Refusing<B> {
-    /// It refuses nothing until it is told to.
+    /// It refuses nothing until it is asked to.
     pub fn new(inner: B) -> Self {
         Refusing {
             inner,

@@ -1,4 +1,4 @@
--- Where a field stands in a FIS: bytes and bits count from 0, and a number has its low byte first
+-- The place of a field in a FIS: bytes and bits count from 0, and a number has its low byte first
 -- (Serial ATA, "FIS types").
 use Rattle.std.specs.Prelude.{ℕ, ◌+◌, ◌*◌, ◌^◌, Bool, ◌==◌, List, slice_index, if◌then◌else◌}
 use Rattle.std.specs.Int.{bit_at}
@@ -16,7 +16,7 @@ bit k n = bit_at n k == 1
 abbrev pub number : ℕ → ℕ → List ℕ → ℕ
 number i n bytes = little_from i n bytes
 
--- LBA 23:0 stands in bytes 4 to 6 and LBA 47:24 in bytes 8 to 10
+-- LBA 23:0 is in bytes 4 to 6 and LBA 47:24 in bytes 8 to 10
 abbrev pub lba_at : List ℕ → ℕ
 lba_at bytes = number 4 3 bytes + 2 ^ 24 * number 8 3 bytes
 

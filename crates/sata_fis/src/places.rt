@@ -30,7 +30,7 @@ fn low_24(bytes: &[u8], place: usize) -> u32
     LittleEndian::read_u24(&bytes[place..])
 }
 
-/// The LBA, whose halves of 24 bits stand in bytes 4 to 6 and 8 to 10.
+/// The LBA, whose halves of 24 bits are in bytes 4 to 6 and 8 to 10.
 pub(crate) fn lba_of(bytes: &[u8]) -> u64
     requires { 11 ≤ length bytes.now }
     ensures value { result ≡ lba_at bytes.now }

@@ -48,7 +48,7 @@ found_from : (o : Option ℕ) (u l : Bytes) → whole l ≡ found_at o u → (e 
 found_from None u l is = absurd (no_whole (nat_le (length u) 4096) l is)
 found_from (Some e) u l is = (e, refl, that_line (nat_le e 4096) l (take e u) is, is_short (nat_le e 4096) l (take e u) is)
 
--- no line feed stands before the first
+-- no line feed comes before the first
 before_feed : (u : Bytes) (e : ℕ) → line_end u ≡ Some e → position_or_len (λ b. b == 10) (take e u) ≡ e
 before_feed u e found =
     let at = position-Some (λ b. b == 10) u e 0 found in
@@ -59,7 +59,7 @@ same_end : (b : Bool) (n : ℕ) → cond b (n + 0) n ≡ n
 same_end true n = omega arith
 same_end false n = refl
 
--- a place within a length, as `position` tells it
+-- a place within a length, as `position` answers it
 placed_at : (at len n : ℕ) → at ≡ n → n < len → cond (nat_lt at len) (Some at) None ≡ Some n
 placed_at at len n is within =
     ap (λ b. cond b (Some at) None) (lt-ltb at len (omega arith)) ∙ ap Some is

@@ -65,7 +65,7 @@ StopsReading Takes Refuses r s from to stopped.Read =
 StopsReading Takes Refuses r s from to (stopped.Taker fault) =
     TakenFirst Takes r from (λ lines remaining rest at. (remaining ≡ s) × ((found : Begins) × Comes s rest found × Refuses at (length lines + 1) found fault to))
 
--- what the reads told where the lines were not all taken: one failed, or a byte came after the limit; or none failed by then
+-- what the reads returned where the lines were not all taken: one failed, or a byte came after the limit; or none failed by then
 abbrev pub ReadsAs : {F : Type 0} → ReadSoFar → ReadSoFar → Stopped F → Type 0
 ReadsAs old new stopped.Read = FailsReading new
 ReadsAs old new other = new.failed ≡ old.failed

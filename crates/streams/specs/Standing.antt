@@ -1,4 +1,4 @@
--- Where the reading of an input stands, and how it goes on.
+-- The state of the reading of an input, and how it goes on.
 use Rattle.std.specs.Prelude.{◌≡◌, ℕ, ◌+◌, ◌*◌, ◌-◌, List, ◌++◌, Option, length}
 use Rattle.std.specs.Io.KnownBytes.{Consumes}
 use Rattle.streams.specs.Reading.{Comes, MayEnd, Step, Taken, last_of}
@@ -17,7 +17,7 @@ pub record Stand (S : Type 0) : Type 0 where
   pub line : ℕ
   pub state : S
 
--- where a reading stands
+-- the state of a reading
 abbrev pub stand : {A : _} {S : Type 0} → Option (List ℕ) → S → Reading A → Stand S
 stand remaining state r = record { remaining = remaining; unread = r.input.bytes; came = r.input.came; line = r.line; state = state }
 

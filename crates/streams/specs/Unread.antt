@@ -10,7 +10,7 @@ pub record Unread : Type 0 where
   pub bytes : List ℕ
   pub came : ℕ
 
--- where the first line feed stands
+-- the place of the first line feed
 abbrev pub line_end : List ℕ → Option ℕ
 line_end bytes = position (λ b. b == 10) bytes
 
@@ -54,7 +54,7 @@ MayFail came remaining_old remaining_new = Keeps remaining_old remaining_new ⊎
 abbrev pub ReadsNoMore : ℕ → List ℕ → Option (List ℕ) → Option (List ℕ) → Type 0
 ReadsNoMore came unread remaining_old remaining_new = (remaining_old ≡ remaining_new) ⊎ ((found_of unread ≡ unfinished) × MayFail came remaining_old remaining_new)
 
--- why reading failed, by what the reads told: one of them failed, or a byte came after 67,108,864
+-- why reading failed, by what the reads returned: one of them failed, or a byte came after 67,108,864
 abbrev pub FailsReading : ReadSoFar → Type 0
 FailsReading reads = (reads.failed ≡ true) ⊎ (67108864 < reads.came)
 

@@ -145,7 +145,7 @@ impl<A: Allocator> Input<A> {
     }
 }
 
-/// Where the first line feed stands.
+/// The place of the first line feed.
 fn line_feed(bytes: &[u8]) -> Option<usize>
     ensures { result ≡ line_end bytes.now }
 {

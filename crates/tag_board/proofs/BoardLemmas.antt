@@ -1,4 +1,4 @@
--- What a seat's own steps tell of the board, as its contracts say it.
+-- What a seat's own steps say of the board, as its contracts say it.
 use Rattle.std.proofs.Common.{◌≡◌, ℕ, ◌+◌, Bool, false, List, ◌∷◌, sym, ◌∙◌, refl, ap, add-one}
 use Rattle.tag_board.specs.declared.finding.Finding.{Finding}
 use Rattle.tag_board.specs.declared.finding.Finding.TheVariants.{Tried}

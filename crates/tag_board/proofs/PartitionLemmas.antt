@@ -46,12 +46,12 @@ two-at views id other v w t apart at at' =
     let none = once-false no_places t (has_place-no_places t) in
     omega arith
 
--- a tag stands at most once
+-- a tag is at most once
 pub at_most_once : (d word : ℕ) (views : List View) (t : ℕ) → IsPartition d word views → once (bits word) t + holders views t ≤ 1
 at_most_once d word views t p =
     ⊎_elim (λ (h : t < d). let e = p.below t h in omega arith) (λ (h : d ≤ t). let e = p.past t h in omega arith) (cases_lt t d)
 
--- the word and one view change so that each tag stands as often as before
+-- the word and one view change so that each tag is as often as before
 pub moved : (d word left : ℕ) (views : List View) (id : ℕ) (v w : View) → IsPartition d word views → get_elem? views id ≡ some v → left < 2 ^ 32
     → ((t : ℕ) → once (bits left) t + once w.tags t ≡ once (bits word) t + once v.tags t) → IsPartition d left (set views id w)
 moved d word left views id v w p at fits same = record {
@@ -105,7 +105,7 @@ opens d word l fits e = record {
   fits = fits;
 }
 
--- ---- what a view knows of the word that it stands with
+-- ---- what a view knows of the word that it goes with
 
 pub stands_apart : (word : ℕ) (v : View) (t : ℕ) → Stands word v → has_place v.tags t ≡ true → has_place (bits word) t ≡ false
 stands_apart word v t s e =

@@ -1,4 +1,4 @@
--- How often a tag stands in two sets together, when it moves from one to the other.
+-- How often a tag is in two sets together, when it moves from one to the other.
 use Rattle.std.proofs.Common.{◌≡◌, ◌≢◌, ℕ, ◌+◌, ◌^◌, ◌<◌, ◌≤◌, Bool, true, false, true≢false, ◌||◌, if◌then◌else◌, List, length, bit_and, bit_or, sym, ◌∙◌, refl, ap, subst, ⊎_elim, inl, inr, ◌⊎◌, arith}
 use Rattle.std.specs.Int.{w32, bit_not, bit_at}
 use Rattle.std.proofs.lemmas.Bool.{cases_eq, cases_lt}
@@ -52,7 +52,7 @@ place-lt s t l e = ⊎_elim (λ b. b) (λ b. absurd (true≢false (sym e ∙ has
 
 -- ---- a tag that moves from one set to the other
 
--- where two sets change at one tag alone, and it stands in them as often as before, each tag does
+-- where two sets change at one tag alone, and it is in them as often as before, each tag does
 moved_stays : (f g s r : List Bool) (t : ℕ) → once g t + once r t ≡ once f t + once s t → ((i : ℕ) → i ≢ t → has_place g i ≡ has_place f i)
     → ((i : ℕ) → i ≢ t → has_place r i ≡ has_place s i) → (i : ℕ) → once g i + once r i ≡ once f i + once s i
 moved_stays f g s r t here first second i =

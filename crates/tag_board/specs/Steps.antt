@@ -1,5 +1,5 @@
--- The kinds of step on the board's word, and what each tells the seat that makes it. Both the word found with the view
--- before and the word left with the view after stand in a partition.
+-- The kinds of step on the board's word, and what the seat learns that makes it. Both the word found with the view
+-- before and the word left with the view after are in a partition.
 --
 -- kind        by                          the word              the views
 -- first seat  `new`                       the tags below depth  the first is blank

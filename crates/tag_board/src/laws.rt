@@ -1,5 +1,5 @@
 //! Laws: each function is empty, and its clause holds of every board. They say what the partition means, and what a
-//! seat may conclude where a call's clause says that a word and its view stand in it.
+//! seat may conclude where a call's clause says that a word and its view are in it.
 ghost use Rattle.tag_board.specs.Laws.{FreeOrHeldOnce, NoneFromDepth, HeldAlone, FreeInNoView, EachTried, TriedOnce, TakenIsHeld};
 
 /// Between any two steps a tag below the depth is free or in exactly one view, and not in both. No other tag is in the

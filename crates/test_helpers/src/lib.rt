@@ -1,4 +1,4 @@
-//! What several crates of tests share: steps of the device that stand in a table, jobs of one sector, a window of any bytes,
+//! What several crates of tests share: steps of the device in a table, jobs of one sector, a window of any bytes,
 //! and readers and a writer that fail.
 #![tactic(auto)]
 

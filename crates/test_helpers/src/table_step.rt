@@ -4,7 +4,7 @@ ghost use Rattle.std.specs.Prelude.{◌≡◌, take};
 use ahci_port::DeviceStep;
 use arrayvec::ArrayVec;
 
-/// A step of the device that can stand in a `static`: its tags are lent.
+/// A step of the device that can be in a `static`: its tags are lent.
 #[derive(Clone, Copy, Debug)]
 pub enum TableStep {
     Accept(u8),

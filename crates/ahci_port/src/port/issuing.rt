@@ -69,7 +69,7 @@ impl<A: Allocator, S: SectorStore> Port<A, S> {
         }
     }
 
-    /// The command of a window that nothing stands against. This and `enter` are inline in each call, so that the command with its
+    /// The command of a window that isn't refused. This and `enter` are inline in each call, so that the command with its
     /// list of pieces is not moved.
     #[inline(always)]
     fn command_of(&self, window: &Window<A>) -> Result<Command, IssueFault>
@@ -141,7 +141,7 @@ impl<A: Allocator + Clone, S: SectorStore> Port<A, S> {
         }
     }
 
-    /// Issues a command that nothing stands against, as `enter` does; where memory is refused, its window comes back.
+    /// Issues a command that isn't refused, as `enter` does; where memory is refused, its window comes back.
     #[inline(always)]
     fn entered(
         &mut self,
@@ -166,7 +166,7 @@ impl<A: Allocator + Clone, S: SectorStore> Port<A, S> {
         }
     }
 
-    /// Issues a command that nothing stands against: its window goes into the slot, and what it asks into the journal.
+    /// Issues a command that isn't refused: its window goes into the slot, and what it asks into the journal.
     ///
     /// # Errors
     /// Window and command come back where room for the request's entries was refused.

@@ -16,7 +16,7 @@ use sector_store::SectorStore;
 use std::alloc::Allocator;
 
 impl<A: Allocator, S: SectorStore> Port<A, S> {
-    /// Recovers from a failure: the port is stopped and started, and the page that READ LOG EXT reads tells the failed tag,
+    /// Recovers from a failure: the port is stopped and started, and the page that READ LOG EXT reads names the failed tag,
     /// which is the answer. The failed request is done, and every other command that was issued or accepted is held.
     ///
     /// # Errors
@@ -76,7 +76,7 @@ impl<A: Allocator, S: SectorStore> Port<A, S> {
         Ok(())
     }
 
-    /// Carries out IDENTIFY DEVICE or FLUSH CACHE EXT, and answers the page that the device sent last. It stands inline in both, so
+    /// Carries out IDENTIFY DEVICE or FLUSH CACHE EXT, and answers the page that the device sent last. It is inline in both, so
     /// that a flush moves no page.
     #[inline(always)]
     fn send_unqueued(&mut self, plain: Plain) -> Result<[u8; 512], PlainFault>

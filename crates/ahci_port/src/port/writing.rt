@@ -77,9 +77,9 @@ fn bytes_from(windows: &[u8], tag: u8) -> &[u8]
 
 impl<A: Allocator + Clone, S: SectorStore> Port<A, S> {
     /// Takes a word that software writes to the register at an offset, in bytes from the beginning of the HBA's registers. A
-    /// bit of PxSACT, then of PxCI, issues the command of that slot: its header stands in `list`, the 1,024 bytes at PxCLB,
+    /// bit of PxSACT, then of PxCI, issues the command of that slot: its header is in `list`, the 1,024 bytes at PxCLB,
     /// and its window in `windows`, of which each slot has a 32nd part, slot 0 the first. A held command is issued again, as
-    /// it stands in its slot. PxCMD without ST, after a failure, and then with it is the way back, `recover`. Every other
+    /// it is in its slot. PxCMD without ST, after a failure, and then with it is the way back, `recover`. Every other
     /// register takes the word as `PortRegs::write` says, so PxIS loses the bits that are 1.
     ///
     /// # Errors

@@ -13,7 +13,7 @@ use std::marker::Model;
 use std::str::from_utf8;
 use streams::{TextBuffer, eight_digits, two_digits};
 
-/// What is told by tokens of its own: a member of an object, or what stands in a list.
+/// What has tokens of its own: a member of an object, or an element of a list.
 pub(crate) trait Item {
     ghost value: { Self → List Token };
 
@@ -22,7 +22,7 @@ pub(crate) trait Item {
         ensures { OnOk result (tokens.new ≡ tokens.old ++ value self.now) };
 }
 
-/// What is told as JSON, a token after the other. The allocator is for texts that are made to tell them.
+/// What is written as JSON, a token after the other. The allocator is for texts that are made of them.
 #[derive(Drop)]
 pub(crate) struct Tokens<A: Allocator> {
     pub(super) writer: Writer<A>,
@@ -43,7 +43,7 @@ impl<A: Allocator> Model for Tokens<A> {
 }
 
 impl<A: Allocator + Copy> Tokens<A> {
-    /// Nothing is told yet.
+    /// Nothing is written yet.
     pub(crate) fn new(alloc: A) -> Self
         ensures { result ≡ [] }
     {
@@ -53,7 +53,7 @@ impl<A: Allocator + Copy> Tokens<A> {
         }
     }
 
-    /// The text of what was told.
+    /// The text of what was written.
     pub(crate) fn into_text(self) -> Vec<u8, A>
         ensures { result.items ≡ print self }
     {

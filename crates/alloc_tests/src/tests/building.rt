@@ -6,7 +6,7 @@ use ahci_table::{BuildFault, Piece, Window};
 use std::process::Abort;
 use std::test::Fail;
 
-/// A window of tag 0 for a command of one sector, whose data stand in these pieces.
+/// A window of tag 0 for a command of one sector, whose data are in these pieces.
 type Asked = (Command, &'static [Piece]);
 
 const LOW: Piece = Piece {

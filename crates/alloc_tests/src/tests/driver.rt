@@ -274,7 +274,7 @@ fn tries_to_pump<R: Wait + Abort>(
     Ok(tried)
 }
 
-// A recovery makes room: three entries stand, and room for 129 more makes twice the 129 of the issue.
+// A recovery makes room: there are three entries, and room for 129 more makes twice the 129 of the issue.
 #[test]
 fn a_pump_refused_memory_leaves_the_port_halted(rt: HostRuntime) -> Result<(), Fail> {
     for depth in [1, 16, 32u32] {

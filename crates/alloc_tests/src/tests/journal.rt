@@ -19,7 +19,7 @@ type Room = (u64, u64);
 /// Whether room was made; entries and room then.
 type Said = (bool, u64, u64);
 
-// The first request is for as many entries as are wanted. A later one is for those and the ones that stand, or for twice as
+// The first request is for as many entries as are wanted. A later one is for those and the ones that are there, or for twice as
 // many as before, where that is more.
 static ROOMS: [Row<Room, Said>; 6] = [
     Row((0, 129), &[(false, 0, 0)], (true, 0, 129), 129 * ENTRY),

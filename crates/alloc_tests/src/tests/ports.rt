@@ -1,4 +1,4 @@
-//! The calls of a port that may want memory: what they answer where it is refused, what stands then, and what they answer
+//! The calls of a port that may want memory: what they answer where it is refused, the state then, and what they answer
 //! with memory.
 use crate::tests::commands::{Command, image_of, op_of, port_of, window_of};
 use crate::tests::heap::{Heap, Row, Tried, equal, grant_all, growths_of, refuse_from, tries_each};
@@ -84,7 +84,7 @@ const NOT_SUBMITTED: Said = NotSubmitted(SubmitFault::Issue(IssueFault::OutOfMem
 const NOT_SENT: Said = NotSent(PlainFault::OutOfMemory);
 
 // A write has a copy of its bytes, which is the first growth, where they are not handed over. Room is for 129 entries beyond
-// those that stand: a new journal makes 129, one with an entry makes twice as many, and that is room enough for the next ones.
+// those that are there: a new journal makes 129, one with an entry makes twice as many, and that is room enough for the next ones.
 // The window of a command that is submitted ends 4,096 bytes past the end of its data.
 static CALLS: [Row<Call, Said>; 20] = [
     Row(Issue(Read(0), 0), &[NOT_ISSUED], Issued(0), ROOM),
@@ -373,7 +373,7 @@ fn tries_to_recover(
     Ok(tried)
 }
 
-// Three entries stand, so that room for 129 more makes twice the 129 of the issue.
+// There are three entries, so that room for 129 more makes twice the 129 of the issue.
 #[test]
 fn a_port_refused_memory_is_still_halted_at_each_depth(rt: HostRuntime) -> Result<(), Fail> {
     for depth in 1..=32u32 {

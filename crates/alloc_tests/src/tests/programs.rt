@@ -184,7 +184,7 @@ fn a_script_refused_memory_has_answered_the_lines_before(rt: HostRuntime) -> Res
     replays_each(&rt, rt.alloc(), &UNQUEUED, Err(CliFault::Line(11)))
 }
 
-// Each write has its bytes, and the first job the list, which has room for four. Nothing is told before all is done.
+// Each write has its bytes, and the first job the list, which has room for four. Nothing is reported before all is done.
 static LIST: [Line; 4] = [
     ("write 0 2 11\n", "", 2),
     ("write 4 1 22\n", "", 1),
@@ -234,7 +234,7 @@ fn a_list_refused_memory_tells_nothing(rt: HostRuntime) -> Result<(), Fail> {
     Ok(())
 }
 
-/// Does the list, and tells its run as the bytes of the disk: how many are written, and the requests for memory and their bytes.
+/// Does the list, and reports its run as the bytes of the disk: how many are written, and the requests for memory and their bytes.
 fn told_as_image<R: Threads + Wait + Sync>(
     rt: &R,
     alloc: Global,
@@ -249,7 +249,7 @@ fn told_as_image<R: Threads + Wait + Sync>(
     Ok((written.len(), heap.requests(), heap.bytes()))
 }
 
-// All of the text is asked for at once. Beside it a sector stands in the disk, in the port's copy of it, in that of the run and in
+// All of the text is asked for at once. Beside it a sector is in the disk, in the port's copy of it, in that of the run and in
 // that of its settling.
 #[test]
 fn a_disk_is_told_in_memory_of_its_size(rt: HostRuntime) -> Result<(), Fail> {

@@ -12,7 +12,7 @@ static REGISTERS: [u32; 18] = [
     0x128, 0x12C, 0x130, 0x134, 0x138,
 ];
 
-/// What public calls tell of a port.
+/// What public calls show of a port.
 #[derive(Clone, Copy, Debug, PartialEq)]
 pub struct Shown {
     pub registers: [Result<u32, RegFault>; 18],

@@ -18,7 +18,7 @@ enum Before {
     Error,
 }
 
-/// The tags that are outstanding, and whether an error stands.
+/// The tags that are outstanding, and whether there is an error condition.
 fn state_of(before: Before) -> (u32, bool) {
     match before {
         Before::Nothing => (0, false),

@@ -12,7 +12,7 @@ const FAR_REFUSED: Taken = Taken::Refused([
     0x34, 0x40, 0x41, 0x10, 0x9A, 0x78, 0x56, 0, 0x34, 0x12, 0, 0, 0, 0, 0, 0, 0, 0, 0, 0,
 ]);
 
-/// What the log tells of it: tag 5, status, error, LBA, and the byte that makes the sum 0.
+/// What the log says of it: tag 5, status, error, LBA, and the byte that makes the sum 0.
 const FAR_LOG: [(usize, u8); 9] = [
     (0, 5),
     (2, 0x41),

@@ -53,7 +53,7 @@ pub enum Call {
     ReadLog(&'static [(usize, u8)]),
 }
 
-/// A call, and then the tags that are outstanding and whether an error stands.
+/// A call, and then the tags that are outstanding and whether there is an error condition.
 pub type Row = (Call, u32, bool);
 
 /// A disk of sectors filled with one byte.

@@ -31,7 +31,7 @@ pub enum Look {
     Entries(usize),
     /// PxSACT, PxCI and the device's tags.
     Tags(u32, u32, u32),
-    /// Where a tag's command stands.
+    /// The state of a tag's command.
     Stands(u8, Phase),
     /// How many entries requests can still need.
     Owed(u32),

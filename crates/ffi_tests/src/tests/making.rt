@@ -57,7 +57,7 @@ fn asked(alloc: Global, is_image: bool, image: &[u8]) -> (Status, u64) {
     (said, heap.bytes())
 }
 
-// 14 sectors more stand in the image, and in the port's copy of it.
+// 14 sectors more are in the image, and in the port's copy of it.
 #[test]
 fn a_port_asks_for_its_image_and_one_copy_of_it(rt: HostRuntime) -> Result<(), Fail> {
     for is_image in [false, true] {

@@ -68,7 +68,7 @@ fn writes(port: &mut HeapPort<'_>, stopped: bool, offset: u32, word: u32) -> (St
     (answer, done.tag)
 }
 
-/// A write of PxCI. Where it is refused, the slot is told.
+/// A write of PxCI. Where it is refused, the slot is named.
 fn commands(port: &mut HeapPort<'_>) -> Status {
     match writes(port, false, 0x138, 2) {
         (Status::Refused(Refusal::OutOfMemory), 1) => Status::Refused(Refusal::OutOfMemory),
@@ -200,7 +200,7 @@ fn halted<'a>(heap: &'a Heap, port: &mut HeapPort<'a>) -> [Status; 3] {
     ]
 }
 
-/// Recovers by the call, or by a driver's start of the port: the answer, and the tag that is told.
+/// Recovers by the call, or by a driver's start of the port: the answer, and the tag that is named.
 fn recovers(port: &mut HeapPort<'_>, is_driver: bool) -> (Status, u32) {
     if is_driver {
         return writes(port, true, 0x118, 0x11);

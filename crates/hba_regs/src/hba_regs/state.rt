@@ -1,4 +1,4 @@
-//! What the HBA's registers tell the device's side.
+//! What the HBA's registers say to the device's side.
 
 ghost use Rattle.std.specs.Prelude.{◌≡◌, ◌<◌, true};
 ghost use Rattle.word_bits.specs.Places.{bits};

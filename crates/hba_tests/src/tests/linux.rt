@@ -202,7 +202,7 @@ const QUEUED_READ: &[Row] = &[
     HasAll(0x3B52_4000, 4096, 0),
 ];
 
-/// Two writes, done in the opposite order; one interrupt may tell both.
+/// Two writes, done in the opposite order; one interrupt may announce both.
 const QUEUED_WRITES: &[Row] = &[
     Fills(0x4AAD_A000, 4096, 0x12),
     Fills(0x4AAD_D000, 4096, 0x13),

@@ -17,7 +17,7 @@ static REGISTERS: [u32; 19] = [
     0x124, 0x128, 0x12C, 0x130, 0x134, 0x138,
 ];
 
-/// What public calls tell of a controller: its registers, what it reads or writes next, what it can do with each slot, and its port.
+/// What public calls show of a controller: its registers, what it reads or writes next, what it can do with each slot, and its port.
 #[derive(Clone, Copy, Debug, PartialEq)]
 pub struct Shown {
     registers: [u64; 19],

@@ -87,7 +87,7 @@ fn is_set_bits(bytes: &[u8], f: &SetBits) -> bool {
         && is_number(bytes, &[4, 5, 6, 7], u64::from(f.sactive))
 }
 
-/// Each field of the FIS stands at its place in the bytes.
+/// Each field of the FIS is at its place in the bytes.
 pub fn agrees(bytes: &[u8], fis: &Fis<'_>) -> bool {
     match fis {
         Fis::H2d(f) => is_h2d(bytes, f),

@@ -125,7 +125,7 @@ fn lists_of_pieces_are_refused_by_the_first_case(rt: HostRuntime) -> Result<(), 
     Ok(())
 }
 
-/// Commands and pieces to which two cases apply, of which the first is told.
+/// Commands and pieces to which two cases apply, of which the first is reported.
 static TWO_CASES: [(Asked, &[Place], BuildFault); 7] = [
     (Asked::Read(1 << 48, 0), &[], BadCount),
     (Asked::Read(0, 65_537), &[], BadCount),

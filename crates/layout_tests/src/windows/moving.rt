@@ -6,7 +6,7 @@ use std::alloc::{AllocError, Global};
 use std::process::Abort;
 use std::test::Fail;
 
-/// The places whose bytes two windows have not in common, and the bytes that stand there now.
+/// The places whose bytes two windows have not in common, and the bytes that are there now.
 fn differences(alloc: Global, before: &[u8], after: &[u8]) -> Result<Vec<(usize, u8)>, AllocError> {
     let mut places = Vec::new(alloc);
     for (place, (old, new)) in before.iter().zip(after).enumerate() {

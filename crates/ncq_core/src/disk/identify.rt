@@ -3,7 +3,7 @@
 ghost use Rattle.std.specs.Prelude.{◌≡◌, ◌<◌, ◌≤◌};
 ghost use Rattle.ncq_core.specs.Identify.{text_word, number_word, identify_word, identify_page};
 
-/// The most sectors that words 60 and 61 tell (ACS-3, "IDENTIFY DEVICE", words 60 and 61).
+/// The most sectors that words 60 and 61 can say (ACS-3, "IDENTIFY DEVICE", words 60 and 61).
 const MOST_28_BITS: u32 = 0x0FFF_FFFF;
 
 /// Word `number` of a text, which spaces follow. The first of its two characters is the high byte.

@@ -93,7 +93,7 @@ fn byte_count(command: &Queued) -> usize
     command.sectors as usize * 512
 }
 
-/// Moves the data of a read: its sectors stand at the beginning of the host's text afterwards.
+/// Moves the data of a read: its sectors are at the beginning of the host's text afterwards.
 fn read_data<H: Host, S: SectorStore>(
     host: &mut H,
     room: &mut [u8; DATA_FIS],

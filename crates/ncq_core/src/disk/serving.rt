@@ -1,4 +1,4 @@
-//! How the disk ends a command that is outstanding: by serving it, or by an error, which a page of the log tells.
+//! How the disk ends a command that is outstanding: by serving it, or by an error, which a page of the log reports.
 
 ghost use Rattle.std.specs.Prelude.{◌≡◌, ◌+◌, ◌<◌, ◌≤◌, ◌&&◌, slice_set, None, Some, Err, length, IfOk, IfErr, IfSome, IsOk, OnOk, OnErr, IsSome, IsSomeAnd, MatchOption};
 ghost use Rattle.ncq_core.specs.DiskState.{IsDisk, IsOutstanding, command_of, disk_sectors, is_reserved_in};
@@ -29,11 +29,11 @@ fn covers_sector(command: &Queued, lba: u64) -> bool
 impl<S: SectorStore> Disk<S> {
     /// Serves the command outstanding at a tag: one DMA Setup, then its data, in Data FISes with 8,192 bytes of payload and the rest; each of
     /// a write after a DMA Activate. A read puts its sectors at the beginning of
-    /// the host's text; a write makes its sectors the first bytes of that text. A store that may need memory for a write has it reserved. Which Set Device Bits FIS tells that it is
+    /// the host's text; a write makes its sectors the first bytes of that text. A store that may need memory for a write has it reserved. Which Set Device Bits FIS says that it is
     /// completed, alone or with others, `completed` says.
     ///
     /// # Errors
-    /// `Stopped` where an error stands, `NotAccepted` where nothing is outstanding at the tag.
+    /// `Stopped` if there is an error condition, `NotAccepted` where nothing is outstanding at the tag.
     pub fn serve<H: Host>(&mut self, tag: u8, host: &mut H) -> Result<(), ServeFault>
         requires room { IfSome (command_of self.old tag) (λ q. byte_count q ≤ length (H.text host.old)) }
         requires reserved { IfSome (command_of self.old tag) (HasMemory (S.can_grow && self.old.grows) (disk_sectors self.old) self.old.reserved) }
@@ -55,11 +55,11 @@ impl<S: SectorStore> Disk<S> {
         Ok(())
     }
 
-    /// Fails the command outstanding at a tag, with an error at one of its sectors, `at`. The error stands, and has ended
+    /// Fails the command outstanding at a tag, with an error at one of its sectors, `at`. The error condition lasts, and has ended
     /// every command. No sector changes. The answer is a Set Device Bits FIS.
     ///
     /// # Errors
-    /// `Stopped` where an error stands, `NotAccepted` where nothing is outstanding at the tag, `OutsideCommand` where `at`
+    /// `Stopped` if there is an error condition, `NotAccepted` where nothing is outstanding at the tag, `OutsideCommand` where `at`
     /// is not a sector of its command.
     #[tactic(auto, using(crate::proofs::DiskLemmas::sector_fits))]
     pub fn fail(&mut self, tag: u8, error: u8, at: u64) -> Result<[u8; 8], ServeFault>
@@ -74,7 +74,7 @@ impl<S: SectorStore> Disk<S> {
         Ok(failed(error))
     }
 
-    /// Answers page 0 of log 10h, which tells the error that stands, and ends the error.
+    /// Answers page 0 of log 10h, which reports the error, and ends the error condition.
     pub fn read_log(&mut self) -> [u8; 512]
         requires { IsSome self.old.error }
         ensures page { IsSomeAnd self.old.error (λ e. result ≡ log_page e) }
@@ -84,7 +84,7 @@ impl<S: SectorStore> Disk<S> {
         log_page(tag, error, lba)
     }
 
-    /// The command outstanding at a tag, while no error stands.
+    /// The command outstanding at a tag, while there is no error condition.
     fn outstanding(&self, tag: u8) -> Result<Queued, ServeFault>
         ensures ok { IfOk result (λ q. (command_of self.now tag ≡ Some q) × IsOutstanding self.now tag q) }
         ensures none { OnOk result (serve_fault self.now tag ≡ None) }

@@ -37,7 +37,7 @@ fn is_read_log(command: &H2d) -> bool
 }
 
 impl<S: SectorStore> Disk<S> {
-    /// Takes the bytes of a command, by the first case that applies: an error stands, they carry no command, a queued
+    /// Takes the bytes of a command, by the first case that applies: there is an error condition, they carry no command, a queued
     /// one, or another one.
     pub fn take(&mut self, h2d: &[u8]) -> Taken
         ensures answer { result ≡ (verdict self.old h2d.now).answer }
@@ -56,7 +56,7 @@ impl<S: SectorStore> Disk<S> {
         }
     }
 
-    /// While an error stands, only the READ LOG EXT that tells it is let through.
+    /// During an error condition only the READ LOG EXT that reports it is let through.
     fn take_stopped(&self, command: Option<H2d>) -> Taken
         ensures { result ≡ (stopped_verdict self.now command).answer }
     {

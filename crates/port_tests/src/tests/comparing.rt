@@ -52,7 +52,7 @@ fn op_of(alloc: Global, command: Command) -> Result<Op, AllocError> {
     })
 }
 
-/// What no entry tells of a port: PxIS, PxTFD, PxSERR, the received FIS area and the journal's room.
+/// What no entry says of a port: PxIS, PxTFD, PxSERR, the received FIS area and the journal's room.
 type Shown = ([Result<u32, RegFault>; 3], [u8; 256], u64);
 
 impl Story {
@@ -182,7 +182,7 @@ impl Story {
         })
     }
 
-    /// Trims the port. Its image is then the starting one, and its entries stand in the journal that it hands out.
+    /// Trims the port. Its image is then the starting one, and its entries are in the journal that it hands out.
     fn trim(&mut self, rt: &impl Abort) -> Result<Option<TrimFault>, Fail> {
         let journal = match self.port.trim() {
             Ok(journal) => journal,

@@ -21,7 +21,7 @@ enum Before {
 /// The first byte of a header, byte 12 of CFIS, and the window's tag.
 type Bytes = (u8, u8, u8);
 
-/// What stands against a window is named before what is wrong in it.
+/// Why a window is refused at once is named before what is wrong in it.
 static ROWS: [(Before, Bytes, Result<u64, IssueFault>); 14] = [
     (Before::Nothing, (0x05, 0x00, 0), Ok(0)),
     (Before::Nothing, (0x85, 0x07, 0), Ok(0)),

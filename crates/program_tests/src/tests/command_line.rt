@@ -1,4 +1,4 @@
-//! What a command line is told where it is wrong.
+//! What is said of a wrong command line.
 use ahci_args::{asked, not_text};
 use clap::error::ErrorKind;
 use std::alloc::Global;
@@ -14,14 +14,14 @@ pub fn words(alloc: Global, line: &str) -> Result<Vec<String>, Fail> {
     Ok(all)
 }
 
-/// What a line that asks for nothing is told: its kind and its text.
+/// What a line that asks for nothing gets: its kind and its text.
 pub fn told(alloc: Global, line: &str) -> Result<(ErrorKind, String), Fail> {
     let words = words(alloc, line)?;
     let error = asked(alloc, words.as_slice()).err().ok_or("asked")?;
     Ok((error.kind(), format!(in alloc; "{error}")?))
 }
 
-/// An error's kind, and lines that are told it, each with a part of the text.
+/// An error's kind, and lines that get it, each with a part of the text.
 pub type Kind = (ErrorKind, &'static [(&'static str, &'static str)]);
 
 pub const MISSING: ErrorKind = ErrorKind::MissingRequiredArgument;
@@ -30,7 +30,7 @@ pub const TWICE: ErrorKind = ErrorKind::ArgumentConflict;
 
 pub const RANGE: ErrorKind = ErrorKind::ValueValidation;
 
-/// Each line is told an error of its kind, whose text has the part and ends with one line feed. Before its words stand the
+/// Each line gets an error of its kind, whose text has the part and ends with one line feed. Before its words come the
 /// first ones.
 pub fn are_told(rt: &impl Abort, alloc: Global, first: &str, kinds: &[Kind]) -> Result<(), Fail> {
     for (wanted, rows) in kinds {

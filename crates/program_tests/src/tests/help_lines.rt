@@ -60,7 +60,7 @@ const LOG_HELP: &[&str] = &[
     "| od -Ax -tx1\n",
 ];
 
-/// Lines that are told help, and its parts.
+/// Lines that get help, and its parts.
 static HELP: [(&str, &[&str]); 13] = [
     ("ahci --help", &["replay    Read a script"]),
     ("ahci -h", &["Usage: ahci <COMMAND>"]),
@@ -83,7 +83,7 @@ static HELP: [(&str, &[&str]); 13] = [
     ("ahci log --help", LOG_HELP),
 ];
 
-/// A line is told help that has each of these parts, and ends with one line feed.
+/// A line gets help that has each of these parts, and ends with one line feed.
 fn helps(rt: &impl Abort, alloc: Global, line: &str, parts: &[&'static str]) -> Result<(), Fail> {
     let (kind, text) = told(alloc, line)?;
     let text = text.as_str();

@@ -1,9 +1,9 @@
-//! What the command lines of `identify` and `log` are told where they are wrong.
+//! What is said of wrong command lines of `identify` and `log`.
 use crate::tests::command_line::{Kind, MISSING, RANGE, TWICE, are_told};
 use clap::error::ErrorKind;
 use std::test::Fail;
 
-/// What an error byte that is none is told.
+/// What is said of an error byte that is none.
 const BYTE: &str = "invalid value for '--error <EE>': it is two hexadecimal digits";
 
 /// Lines that are wrong in one place, after `ahci`.

@@ -84,7 +84,7 @@ static FAR_BEHIND_THE_END: [Row; 5] = [
     ("collect 5 0", "failed 1 10 78187493530"),
 ];
 
-/// A failure is told by the log page: tag, error and LBA.
+/// A failure is in the log page: tag, error and LBA.
 static LOGGED: [Row; 8] = [
     ("disk 8 4", "disk 8 4"),
     ("read 3 7 1", "issued 0"),

@@ -1,4 +1,4 @@
-//! What a command line of `run` is told where it is wrong.
+//! What is said of a wrong command line of `run`.
 use crate::tests::command_line::{Kind, MISSING, RANGE, TWICE, are_told};
 use clap::error::ErrorKind;
 use std::test::Fail;

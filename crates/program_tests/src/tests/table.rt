@@ -1,4 +1,4 @@
-//! The comparisons that all tables share. A row is told by its number, or by that and its table or a place in it.
+//! The comparisons that all tables share. A row is named by its number, or by that and its table or a place in it.
 use std::fmt::Debug;
 use std::process::Abort;
 

@@ -12,7 +12,7 @@ use std::thread::Threads;
 
 mod cases;
 
-/// Compares what the program writes for a command line and an input, what it tells, and its status.
+/// Compares what the program writes for a command line and an input, what it reports, and its status.
 fn meets<H>(rt: &H, alloc: Global, case: &Case) -> Result<(), Fail>
 where
     H: Threads + Wait + Sync + Abort,

@@ -31,7 +31,7 @@ static TOOLS: [Tool; 6] = [
     Tool::CheckJobs,
 ];
 
-/// The port refuses its last command, of which a check tells.
+/// The port refuses its last command, which a check reports.
 static SCRIPT: &[u8] =
     b"disk 8 4\nwrite 0 3 1 aa\naccept 0\nserve 0\ncollect 0 0\nread 1 3 70000\n";
 
@@ -47,7 +47,7 @@ impl Tool {
         }
     }
 
-    /// What it tells of a read that fails, and of a write.
+    /// What it reports of a read that fails, and of a write.
     fn faults(self) -> (CliFault, CliFault) {
         match self {
             Tool::Trace | Tool::Json | Tool::Draw => (CliFault::Read, CliFault::Write),
@@ -230,7 +230,7 @@ fn an_input_without_a_line_wants_its_room_alone(rt: HostRuntime) {
 impl Tool {
     /// How many bytes it may ask for beside its input's room. A text that it puts together has less than 4 KiB, and that of a
     /// check less than 256 bytes; there are up to three of them, and one that grows asks for less than four times its length in
-    /// all. A disk of 8 sectors stands in memory twice; its slots, its journal and its windows have less than 8 KiB together.
+    /// all. A disk of 8 sectors is in memory twice; its slots, its journal and its windows have less than 8 KiB together.
     fn most_beside(self) -> u64 {
         match self {
             Tool::Trace | Tool::Json | Tool::Draw => 12 * 4096 + 2 * 8 * 512 + 8192,

@@ -98,12 +98,12 @@ static BEHIND: [(&str, &str); 85] = [
         "read 0 281474976710656 1",
         "line 3, column 8: LBA 281474976710656, at most 281474976710655",
     ),
-    // The number of sectors is told before the LBA, as the port's refusal is.
+    // The number of sectors is reported before the LBA, as the port's refusal is.
     (
         "read 0 281474976710656 65537",
         "line 3, column 24: 65537 sectors, at most 65536",
     ),
-    // What is wrong with a word is told from the left, before any number that the port refuses.
+    // What is wrong with a word is reported from the left, before any number that the port refuses.
     (
         "write 0 0 70000 1g",
         "line 3, column 17: not hexadecimal digits",
@@ -143,7 +143,7 @@ static BEHIND: [(&str, &str); 85] = [
     ),
 ];
 
-/// Where they stand.
+/// Their places.
 const BEHIND_DISK: Place = Place::AfterDisk {
     sectors: 8,
     depth: 4,
@@ -176,7 +176,7 @@ static BEFORE: [(&str, &str); 11] = [
     ("disk 8  4", "line 3, column 8: a space too many"),
 ];
 
-/// Says of each line what stands beside it.
+/// Says of each line what is beside it.
 fn says<H: Abort>(
     rt: &H,
     alloc: std::alloc::Global,

@@ -102,7 +102,7 @@ impl Read for Endless {
     }
 }
 
-/// What is told is written before the next read: an output that takes a line ends the check of an input without an end.
+/// What is reported is written before the next read: an output that takes a line ends the check of an input without an end.
 #[test]
 fn a_complaint_does_not_wait_for_the_end_of_the_input(rt: HostRuntime) {
     let mut room = [0; 34];

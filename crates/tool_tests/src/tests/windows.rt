@@ -13,7 +13,7 @@ const ENTRY: &str = "900000100000000000000000ff010000";
 /// READ FPDMA QUEUED of one sector, with the tag 0.
 const READ: &str = "2780600100000040000000000000000000000000";
 
-/// A line's command FIS and entry, how many bytes of data stand after them, and what is said of it.
+/// A line's command FIS and entry, how many bytes of data follow them, and what is said of it.
 type Row = (&'static str, &'static str, usize, &'static str);
 
 static ROWS: [Row; 6] = [

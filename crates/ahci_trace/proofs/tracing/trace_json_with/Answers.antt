@@ -1,4 +1,4 @@
--- The script was traced, and its end is told, or not.
+-- The script was traced, and its end is reported, or not.
 use Rattle.ahci_trace.proofs.ClosingLemmas.{closed_reads, closed_writes}
 use Rattle.ahci_trace.proofs.tracing.trace_json_with.Goals as goal
 

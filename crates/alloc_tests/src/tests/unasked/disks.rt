@@ -53,7 +53,7 @@ const AT_8: Said = Said::Taken(Taken::Refused([
     0x34, 0x40, 0x41, 0x10, 8, 0, 0, 0, 0, 0, 0, 0, 0, 0, 0, 0, 0, 0, 0, 0,
 ]));
 
-/// Calls with their answers, and then the tags that are outstanding and whether an error stands.
+/// Calls with their answers, and then the tags that are outstanding and whether there is an error condition.
 static ROWS: [(Call, Said, u32, bool); 20] = [
     (
         Call::Identify,

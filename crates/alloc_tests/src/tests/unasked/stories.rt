@@ -20,7 +20,7 @@ use test_helpers::{FAIL_1_AT_7, FAIL_1_AT_8, TableStep};
 enum Call {
     /// A command of one sector: its tag and LBA, and a write's byte. With memory.
     Issue(u8, u64, Option<u8>),
-    /// The same with none, for the window stands already.
+    /// The same with none, for the window is there already.
     IssueInVain(u8, u64, Option<u8>),
     /// With memory.
     Recover,

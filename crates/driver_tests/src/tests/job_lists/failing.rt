@@ -37,7 +37,7 @@ fn a_reader_may_fail_after_any_byte(rt: HostRuntime) {
     }
 }
 
-/// Runs a list with room for so many bytes: as much is written of what there is to tell.
+/// Runs a list with room for so many bytes: as much is written of what there is to report.
 fn writes<R: Threads + Wait + Sync + Abort>(
     rt: &R,
     alloc: Global,
@@ -85,7 +85,7 @@ fn long_text(rt: &HostRuntime, sectors: usize) -> Result<Vec<u8>, AllocError> {
 fn a_writer_may_fail_before_all_results_are_made(rt: HostRuntime) -> Result<(), Fail> {
     let list = b"read 0 8192\nwrite 0 1 11\n".as_slice();
     let told = long_text(&rt, 8192)?;
-    // More than 16,384 bytes are sent before the write is told.
+    // More than 16,384 bytes are sent before the write is reported.
     for room in [0, 1, 16_384, 24_580, 24_581, 24_586, 24_598, 24_599] {
         writes(&rt, rt.alloc(), list, RunSize::new(1, 1, 8192), &told, room)?;
     }

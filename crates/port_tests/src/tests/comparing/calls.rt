@@ -55,7 +55,7 @@ pub enum Fault {
 }
 
 impl Call {
-    /// The bit that stands for this kind of call.
+    /// The bit of this kind of call.
     pub fn kind(&self) -> u32 {
         match self {
             Call::Issue(_) => 0x001,
@@ -74,7 +74,7 @@ impl Call {
     }
 }
 
-/// The bit that stands for a Serve of one tag, of some, of none, or of one twice.
+/// The bit of a Serve of one tag, of some, of none, or of one twice.
 fn kind_of_list(tags: &[u8]) -> u32 {
     match tags.len() {
         0 => 0x800,

@@ -1,4 +1,4 @@
-//! Lines that are not understood, or stand where they may not, and lines that are nothing.
+//! Lines that are not understood, or aren't allowed where they are, and lines that are nothing.
 use super::{CliFault, REFUSED_REQUESTS, TWO_WRITES, ends, joined, replayed};
 use std::alloc::{AllocError, Global};
 use std::process::Abort;

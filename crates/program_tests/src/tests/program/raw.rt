@@ -86,7 +86,7 @@ fn bytes_that_are_no_window_are_refused(rt: HostRuntime) -> Result<(), Fail> {
     Ok(())
 }
 
-/// What stands in place of a header of 64 digits and bytes after `raw`, and how the script ends: the tag is named before the
+/// What comes in place of a header of 64 digits and bytes after `raw`, and how the script ends: the tag is named before the
 /// bytes are looked at.
 static LINES: [(&[u8], usize, &[u8], Result<(), CliFault>); 12] = [
     (b"31 ", 64, b" 00\n", Ok(())),

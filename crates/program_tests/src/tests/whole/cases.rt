@@ -1,4 +1,4 @@
-//! Command lines of each kind: what they read, what they write and tell, and how they end.
+//! Command lines of each kind: what they read, write and report, and how they end.
 use crate::tests::wanted::Wanted;
 use Wanted::{Page, Part, Text};
 
@@ -268,7 +268,7 @@ pub static CASES: [Case; 40] = [
     ("ahci --version", GOOD, Text("ahci 1.0.0\n"), NOTHING, 0),
 ];
 
-/// Lines that are told help, whatever the input is, and a part of it.
+/// Lines that get help, whatever the input is, and a part of it.
 pub static HELPS: [(&str, &[u8], &str); 9] = [
     ("ahci --help", GOOD, "judges a script's lines"),
     ("ahci replay --help", BAD, "| ahci replay"),

@@ -1,5 +1,5 @@
 //! The texts of worked pages. Their words and bytes are those of the tables of ACS-3 ("IDENTIFY DEVICE", "NCQ Command Error
-//! log") as a disk of this model fills them, worked out by hand. The whole identify page of 1,000 sectors and 32 tags stands in
+//! log") as a disk of this model fills them, worked out by hand. The whole identify page of 1,000 sectors and 32 tags is in
 //! the stored run of `ahci_examples`.
 use ata_pages::{IdentifyText, LogText};
 use ncq_core::{identify_page, log_page};

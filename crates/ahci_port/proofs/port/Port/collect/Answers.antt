@@ -33,7 +33,7 @@ answer-window-requires g c =
     let same : f.slot ≡ c.unwrap-slot.result = same_Some _ _ (sym f.here ∙ sym here ∙ sym c.take.ensures.value ∙ c.unwrap-slot.ensures) in
     ended_there c.unwrap-slot.result (ap (λ s. is_some (answer_in s)) (sym same) ∙ f.answered)
 
--- what stands once the slot is taken: the request's slot
+-- what holds once the slot is taken: the request's slot
 taken : (g : _) (c : After-answer-window g) → Collected c.self.inside.disk.starting c.self.inside.journal.past c.self.inside.slots.items c.self.inside.journal.room c.args.self.now.first c.args.tag c.args.number
 taken g c = collecting _ _ _ _ _ _ _ c.args.tag c.args.number c.args.self.now c.self.invariant (ap (λ p. p.past) c.self.view_is) (sym c.collect_fault.ensures ∙ c.in_default.is)
 

@@ -16,7 +16,7 @@ use Rattle.ahci_port.proofs.TakenLemmas.{vacant_slot}
 use Rattle.ahci_port.proofs.WorkLemmas.{op_direction, op_lba, op_sectors}
 use Rattle.ahci_port.proofs.port.Port.enter.Goals as goal
 
--- what stands where memory was refused: more may be reserved
+-- what holds where memory was refused: more may be reserved
 pub invariant_of-self : goal.invariant_of-self
 invariant_of-self g c =
     let i = c.self.inside in

@@ -36,7 +36,7 @@ push_reserved-requires g c =
     let m = may_fail _ _ _ _ _ _ _ c.args.tag c.args.error c.args.at c.self.invariant a.0 in
     m.room
 
--- what stands once the disk has failed the command: its answer, the slot's request, the slot and the registers
+-- what holds once the disk has failed the command: its answer, the slot's request, the slot and the registers
 said : (g : _) (c : goal.After-push_reserved g) → (fail_fault c.self.inside.disk c.args.tag c.args.at ≡ None) × (c.in-Ok.bits ≡ failed_bytes c.args.error)
 said g c = answered_ok (fail_fault c.self.inside.disk c.args.tag c.args.at) (failed_bytes c.args.error) c.in-Ok.bits c.in-Ok.ensures.answer
 

@@ -19,7 +19,7 @@ carry_out-requires g c =
     let stop : halted c.self.inside.journal.past ≡ true = ap (λ p. halted p.past) c.self.view_is ∙ sym c.halted.ensures ∙ c.if-not-halted.false in
     stopped_here _ _ _ _ _ _ _ c.self.invariant ∙ stop
 
--- what stands once the log is read: the failed tag, the registers and the slots
+-- what holds once the log is read: the failed tag, the registers and the slots
 bad : (g : _) (c : goal.After-push_reserved g) → is_failed (phase c.self.inside.journal.past (get_or c.page.result.now 0 0 % 32)) ≡ true
 bad g c =
     let i = c.self.inside in

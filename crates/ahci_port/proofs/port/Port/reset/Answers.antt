@@ -11,7 +11,7 @@ use Rattle.ahci_port.proofs.ResettingLemmas.{follows}
 use Rattle.ahci_port.proofs.port.Port.reset.Goals as goal
 use Rattle.ahci_port.proofs.port.Port.reset.Goals.{After-hand_out}
 
--- what stands once the journal is handed out: the disk has kept its image, the registers are those of a new port, and no slot is
+-- what holds once the journal is handed out: the disk has kept its image, the registers are those of a new port, and no slot is
 -- owned
 disk : (g : _) (c : After-hand_out g) → c.keep.new.self ≡ disk_over c.self.inside.disk.image c.self.inside.disk.image c.self.inside.disk.grows c.keep.new.self.reserved c.self.inside.disk.depth
 disk g c = c.keep.ensures ∙ ap (λ (d : DiskState). let e : DiskState = record d { starting = d.image; reserved = c.keep.new.self.reserved } in e) c.reset.ensures

@@ -6,7 +6,7 @@ use Rattle.ahci_port.proofs.TrimmingLemmas.{all_free, goes_on, keeps_trim, trim_
 use Rattle.ahci_port.proofs.port.Port.trim.Goals as goal
 use Rattle.ahci_port.proofs.port.Port.trim.Goals.{After-hand_out}
 
--- what stands once the journal is handed out: no slot is owned
+-- what holds once the journal is handed out: no slot is owned
 vacant : (g : _) (c : After-hand_out g) → (tag : ℕ) → slot_at c.self.inside.slots.items tag ≡ None
 vacant g c = vacant_all c.self.inside.slots.items (ap (λ p. list_any is_some p.windows) c.self.view_is ∙ trim_may c.args.self.now (sym c.trim_fault.ensures ∙ c.in_default.is))
 

@@ -1,4 +1,4 @@
--- no tag so far stands after itself
+-- no tag so far comes after itself
 use Rattle.std.proofs.Common.{◌≡◌, drop}
 use Rattle.ahci_port.specs.Faults.{names_twice}
 use Rattle.ahci_port.proofs.port.serving.names_twice.Given as goal

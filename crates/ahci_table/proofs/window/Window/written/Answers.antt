@@ -1,4 +1,4 @@
--- The table is as long as its pieces say; the data stand after it.
+-- The table is as long as its pieces say; the data come after it.
 use Rattle.std.proofs.Common.{length, ap, ◌∙◌}
 use Rattle.ncq_journal.specs.Work.{work_of}
 use Rattle.ahci_table.proofs.BuildLemmas.{built, length-table}
