@@ -19,40 +19,45 @@ static void spell(char text[MOST_LINE], const char *format, va_list rest, int wh
     vsnprintf(text, MOST_LINE, format, rest);
 }
 
-void say(const char *format, ...) {
+static void put(void (*to)(const char *line), const char *format, va_list rest, int why) {
     char text[MOST_LINE];
-    va_list rest;
-    va_start(rest, format);
-    spell(text, format, rest, errno);
-    va_end(rest);
-    voice.put(text);
+    spell(text, format, rest, why);
+    to(text);
 }
 
-void say_of(const char *name, const char *value, const char *format, ...) {
-    char text[MOST_LINE];
+static void put_of(void (*to)(const char *line), const char *name, const char *value, const char *format, va_list rest, int why) {
+    char text[MOST_LINE], line[2 * MOST_LINE];
+    spell(text, format, rest, why);
+    snprintf(line, sizeof line, "%s%s%s%s: %s", voice.before, name, voice.between, value, text);
+    to(line);
+}
+
+void say(const char *format, ...) {
     va_list rest;
     va_start(rest, format);
-    spell(text, format, rest, errno);
+    put(voice.put, format, rest, errno);
     va_end(rest);
-    say("%s%s%s%s: %s", voice.before, name, voice.between, value, text);
 }
 
 void note(const char *format, ...) {
-    char text[MOST_LINE];
     va_list rest;
     va_start(rest, format);
-    spell(text, format, rest, errno);
+    put(voice.note, format, rest, errno);
     va_end(rest);
-    voice.note(text);
+}
+
+void say_of(const char *name, const char *value, const char *format, ...) {
+    va_list rest;
+    va_start(rest, format);
+    put_of(voice.put, name, value, format, rest, errno);
+    va_end(rest);
 }
 
 void note_of(const char *name, const char *value, const char *format, ...) {
-    char text[MOST_LINE];
     va_list rest;
     va_start(rest, format);
-    spell(text, format, rest, errno);
+    put_of(voice.note, name, value, format, rest, errno);
     va_end(rest);
-    note("%s%s%s%s: %s", voice.before, name, voice.between, value, text);
 }
 
 void say_expected(const char *name, const char *value, const char *format, ...) {

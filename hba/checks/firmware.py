@@ -19,11 +19,11 @@ from harness import BROKE_A_RULE, Guest, contents, digest, qemu, serial_of
 import images
 from images import HERE, file_in
 import pace
+from provoked import SHIPPED, script_of
 import recoveries
 from suite import Check, Failed, expect
 
 TRIES = 2      # of each call of INT 13h
-SHIPPED = os.path.join(os.path.dirname(HERE), "host", "events")
 # what a firmware did about an event
 RIGHT, AGAIN, SAID, GIVEN_UP, WRONG, NO_BOOT, HANGS = "right", "an error, then right", "an error", "no request comes right any more", "wrong data are taken for right", "it doesn't boot", "it hangs"
 
@@ -147,16 +147,6 @@ def script_text(row: Row, name: str) -> str:
 
 
 TRIALS = [Trial(name, row.event, script_text(row, name), did) for row in ROWS for name, did in zip(MACHINES, row.did) if did]
-
-
-def script_of(room: str, script: str) -> str:
-    """The path of a script, or of one that is shipped."""
-    if script.endswith(".events"):
-        return os.path.join(SHIPPED, script)
-    path = os.path.join(room, "it.events")
-    with open(path, "w", encoding="utf-8") as file:
-        file.write(f"{script}\n")
-    return path
 
 
 def is_at_end(guest: Guest, room: str, machine: Machine) -> bool:

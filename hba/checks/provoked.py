@@ -119,7 +119,7 @@ CASES: Sequence[Case] = (
 
 
 def script_of(room: str, script: str) -> str:
-    """The path of a script."""
+    """The path of a script, or of one that is shipped."""
     if script.endswith(".events"):
         return os.path.join(SHIPPED, script)
     path = os.path.join(room, "it.events")

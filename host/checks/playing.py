@@ -76,6 +76,28 @@ def by_program(script: str, image: bytes) -> None:
         raise Failed(f"ahci replay: status {done.returncode}, {done.stderr.decode()}; its sectors are {'the same' if shown == wanted else 'others'}")
 
 
+def touched(record: Record, first: int, last: int) -> Set[int]:
+    """The sectors that the commands of a stretch name."""
+    found: Set[int] = set()
+    for it in record.entries(record.before(first)):
+        if it.number > last:
+            break
+        if it.kind in (READ, WRITE) and it.number >= first:
+            found.update(range(it.lba, it.lba + it.count))
+    return found
+
+
+def must_play(folder: str, room: str, first: int, last: int, player: str) -> int:
+    """A stretch plays to the sectors that the disk had after it; how many sectors it named."""
+    script = scripted(folder, os.path.join(room, f"stretch-{first}.ahci"), "--from", str(first), "--to", str(last))
+    played, wanted = replayed(script, player), sectors_of(folder, "--to", str(last))
+    names = touched(Record(folder), first, last)
+    wrong = [lba for lba in names if played[SECTOR * lba:SECTOR * (lba + 1)] != wanted[SECTOR * lba:SECTOR * (lba + 1)]]
+    if wrong:
+        raise Failed(f"entries {first} to {last}: {len(wrong)} of {len(names)} sectors play to others: {wrong[:5]}")
+    return len(names)
+
+
 # ---- large disks
 
 

@@ -6,12 +6,12 @@ import random
 import signal
 import subprocess
 import time
-from typing import Any, Dict, List, Set, Tuple
+from typing import Any, Dict, List, Tuple
 
 from files import limited, small_room
-from playing import STRETCH, replayed, scripted, sectors_of, stretch
+from playing import STRETCH, must_play, replayed, scripted, sectors_of, stretch
 from probe import PLAYER, SECTOR, Probe
-from records import ACCEPT, COLLECT, FLUSH, IDENTIFY, READ, READ_LOG, RECOVER, REISSUE, RESET, TRIM, WRITE, Record, bounds
+from records import ACCEPT, COLLECT, FLUSH, IDENTIFY, READ_LOG, RECOVER, REISSUE, RESET, TRIM, Record, bounds
 from suite import Check, Failed, expect
 
 MIB = 1 << 20
@@ -127,27 +127,6 @@ def lived(room: str, entries: int, seed: int, limit: int = 0) -> str:
     return folder
 
 
-def touched(record: Record, first: int, last: int) -> Set[int]:
-    """The sectors that the commands of a stretch name."""
-    found: Set[int] = set()
-    for it in record.entries(record.before(first)):
-        if it.number > last:
-            break
-        if it.kind in (READ, WRITE) and it.number >= first:
-            found.update(range(it.lba, it.lba + it.count))
-    return found
-
-
-def must_play(folder: str, room: str, first: int, last: int) -> int:
-    """A stretch plays to the sectors that the disk had after it; how many sectors it named."""
-    script = scripted(folder, os.path.join(room, f"stretch-{first}.ahci"), "--from", str(first), "--to", str(last))
-    played, wanted = replayed(script, PLAYER), sectors_of(folder, "--to", str(last))
-    names = touched(Record(folder), first, last)
-    wrong = [lba for lba in names if played[SECTOR * lba:SECTOR * (lba + 1)] != wanted[SECTOR * lba:SECTOR * (lba + 1)]]
-    expect(not wrong, f"entries {first} to {last}: {len(wrong)} of {len(names)} sectors play to others: {wrong[:5]}")
-    return len(names)
-
-
 def stretches(room: str) -> str:
     """Any stretch of a life with failures, resets, trims and several tags at once plays to the same sectors, and so does all of it."""
     named, resets = 0, 0
@@ -156,7 +135,7 @@ def stretches(room: str) -> str:
         draw = random.Random(seed)
         for _ in range(5):
             first = draw.randrange(3500)
-            named += must_play(folder, room, first, first + draw.randrange(10, 500))
+            named += must_play(folder, room, first, first + draw.randrange(10, 500), PLAYER)
         whole = scripted(folder, os.path.join(room, "whole.ahci"))
         expect(replayed(whole, PLAYER) == sectors_of(folder), f"seed {seed}: the whole record plays to other sectors")
         with open(whole, encoding="ascii") as text:
@@ -190,7 +169,7 @@ def parts(room: str) -> str:
     first, last, _ = bounds(record)
     expect(limit // 2 < largest <= limit and 0 < first < last + 1 == life.count, f"{largest} bytes at most of {limit}, entries {first} to {last}")
     expect(len(record.parts) == 2 and record.parts[1].first > record.parts[0].first, "there are not two parts")
-    must_play(folder, room, max(first, record.parts[1].first - 200), record.parts[1].first + 200)
+    must_play(folder, room, max(first, record.parts[1].first - 200), record.parts[1].first + 200, PLAYER)
     done = stretch(["script", folder, "--from", "0"], stdout=subprocess.DEVNULL)
     expect(done.returncode == 1 and b"the record has entries" in done.stderr, f"a dropped entry was not refused: {done.stderr!r}")
     return f"{largest} bytes at most, entries {first} to {last} are left"
@@ -215,7 +194,7 @@ def without_room(room: str, place: str, **more: Any) -> str:
     expect(probe.end() == 2, "the record counts as whole")
     _, last, cut = bounds(Record(folder))
     expect(len(said) == 1 and not cut and said[0].endswith(f"; the record ends after {last + 1} entries") and last > 500, f"the record ends with entry {last} and {cut} more bytes: {said}")
-    must_play(folder, room, max(0, last - 400), last)
+    must_play(folder, room, max(0, last - 400), last, PLAYER)
     return said[0][5:]
 
 
@@ -245,7 +224,7 @@ def killed_record(room: str) -> str:
         probe.kill()
         _, last, _ = bounds(Record(folder))
         expect(last + 1 >= written, f"{written} entries were written, and the record ends with {last}")
-        must_play(folder, room, last - 300, last)
+        must_play(folder, room, last - 300, last, PLAYER)
     path = os.path.join(folder, "part.000001")
     with open(path, "ab") as file:
         file.write(bytes((1, 0, 0, 0, 8)))

@@ -10,20 +10,8 @@ import time
 from typing import Dict, Iterator, List
 
 from harness import MIB, PLUGIN, Check, Failed, Server, Skipped, fio, must_be_clean, out, ran, serving, told, tool
+from files import contents, made
 import pace
-
-
-def made(path: str, size: int, seed: int = 4) -> bytes:
-    """A file of random bytes."""
-    data = random.Random(seed).randbytes(size)
-    with open(path, "wb") as file:
-        file.write(data)
-    return data
-
-
-def contents(path: str) -> bytes:
-    with open(path, "rb") as file:
-        return file.read()
 
 
 def an_image(room: str) -> str:

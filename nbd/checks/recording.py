@@ -6,33 +6,20 @@ import random
 import signal
 import subprocess
 import time
-from typing import List, Set, Tuple
+from typing import List, Tuple
 
-from harness import MIB, PLUGIN, SECTOR, Check, Failed, Server, fio, must_be_clean, out, ran, replayed, scripted, sectors_of, serving, told
+from harness import MIB, PLAYER, PLUGIN, Check, Failed, Server, fio, must_be_clean, out, ran, replayed, scripted, sectors_of, serving, told
 import pace
+import playing
 from records import COLLECT, READ, WRITE, Record, bounds
 
 
-def touched(record: Record, first: int, last: int) -> Set[int]:
-    """The sectors that the commands of a stretch name."""
-    found: Set[int] = set()
-    for it in record.entries(record.before(first)):
-        if it.number > last:
-            break
-        if it.kind in (READ, WRITE) and it.number >= first:
-            found.update(range(it.lba, it.lba + it.count))
-    return found
-
-
 def must_play(folder: str, room: str, first: int, last: int) -> int:
-    """A stretch plays to the sectors that the disk had after it; how many sectors it named."""
-    script = scripted(folder, os.path.join(room, f"stretch-{first}.ahci"), "--from", str(first), "--to", str(last))
-    played, wanted = replayed(script), sectors_of(folder, "--to", str(last))
-    names = touched(Record(folder), first, last)
-    wrong = [lba for lba in names if played[SECTOR * lba:SECTOR * (lba + 1)] != wanted[SECTOR * lba:SECTOR * (lba + 1)]]
-    if wrong or not names:
-        raise Failed(f"entries {first} to {last}: {len(wrong)} of {len(names)} sectors play to others: {wrong[:5]}")
-    return len(names)
+    """A stretch plays to the sectors that the disk had after it, and names some."""
+    names = playing.must_play(folder, room, first, last, PLAYER)
+    if not names:
+        raise Failed(f"entries {first} to {last} name no sector")
+    return names
 
 
 def a_long_record(room: str) -> str:
