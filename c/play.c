@@ -1,6 +1,6 @@
 /* Plays the script language of `ahci replay` (docs/PROGRAM.md) through the library: a line of answer for each command. The
    exit status is 1 at a line that is not understood or stands where it may not, and 3 where memory is refused. After each
-   command the port's whole state is compared with what single calls tell of it, and at the end its journal is looked at: the exit
+   command the port's whole state is compared with what single calls answer, and at the end its journal is looked at: the exit
    status is 4 where they differ. */
 #include "ahci.h"
 #include <inttypes.h>
@@ -292,38 +292,38 @@ static void look(char **words, int n)
     }
 }
 
-/* The whole state is what single calls tell. */
+/* The whole state is what single calls answer. */
 static void compare(void)
 {
     static const uint32_t offsets[18] = { 0x000, 0x004, 0x00c, 0x010, 0x100, 0x104, 0x108, 0x10c, 0x110, 0x114, 0x118, 0x120, 0x124, 0x128, 0x12c, 0x130, 0x134, 0x138 };
-    ahci_state whole, told;
+    ahci_state whole, single;
     ahci_tag_sets sets;
     ahci_entry entry;
     uint32_t *const words[18] = {
-        &told.cap, &told.ghc, &told.pi, &told.vs, &told.px_clb, &told.px_clbu, &told.px_fb, &told.px_fbu, &told.px_is,
-        &told.px_ie, &told.px_cmd, &told.px_tfd, &told.px_sig, &told.px_ssts, &told.px_sctl, &told.px_serr, &told.px_sact, &told.px_ci,
+        &single.cap, &single.ghc, &single.pi, &single.vs, &single.px_clb, &single.px_clbu, &single.px_fb, &single.px_fbu, &single.px_is,
+        &single.px_ie, &single.px_cmd, &single.px_tfd, &single.px_sig, &single.px_ssts, &single.px_sctl, &single.px_serr, &single.px_sact, &single.px_ci,
     };
-    told.first = first;
-    told.next = first + entries;
-    told.halted = 0;
+    single.first = first;
+    single.next = first + entries;
+    single.halted = 0;
     for (uint32_t tag = 0; tag < 32; tag++) {
         ahci_slot slot;
         if (ahci_port_slot(&port, tag, &slot) != AHCI_OK)
             differs("no slot");
-        told.numbers[tag] = slot.number;
-        told.phases[tag] = (uint8_t)slot.phase;
-        told.halted |= slot.phase == AHCI_PHASE_REJECTED || slot.phase == AHCI_PHASE_BROKEN;
+        single.numbers[tag] = slot.number;
+        single.phases[tag] = (uint8_t)slot.phase;
+        single.halted |= slot.phase == AHCI_PHASE_REJECTED || slot.phase == AHCI_PHASE_BROKEN;
     }
     for (int i = 0; i < 18; i++)
         if (ahci_port_register(&port, offsets[i], words[i]) != AHCI_OK)
             differs("no register");
-    if (ahci_port_depth(&port, &told.depth) || ahci_port_sectors(&port, &told.sectors) || ahci_port_tag_sets(&port, &sets) || ahci_port_received(&port, told.received, sizeof told.received))
+    if (ahci_port_depth(&port, &single.depth) || ahci_port_sectors(&port, &single.sectors) || ahci_port_tag_sets(&port, &sets) || ahci_port_received(&port, single.received, sizeof single.received))
         differs("a call that only looks is refused");
-    told.issued = sets.issued;
-    told.accepted = sets.accepted;
-    told.held = sets.held;
-    if (ahci_port_state(&port, &whole) != AHCI_OK || memcmp(&whole, &told, sizeof whole) != 0)
-        differs("the whole state is not what single calls tell");
+    single.issued = sets.issued;
+    single.accepted = sets.accepted;
+    single.held = sets.held;
+    if (ahci_port_state(&port, &whole) != AHCI_OK || memcmp(&whole, &single, sizeof whole) != 0)
+        differs("the whole state is not what single calls answer");
     if (ahci_port_entry(&port, whole.next, &entry) != AHCI_NO_SUCH_ENTRY || (entries && ahci_port_entry(&port, whole.next - 1, &entry) != AHCI_OK))
         differs("the journal ends elsewhere");
 }

@@ -101,7 +101,7 @@ static void served(ahci_port *port, uint64_t number)
     collects(port, 0, number);
 }
 
-/* A read by PxSACT and PxCI, whose window is copied: where memory is refused, the slot is told and can be written again. It fails, and
+/* A read by PxSACT and PxCI, whose window is copied: where memory is refused, the slot is named and can be written again. It fails, and
    the port recovers by PxCMD. */
 static int driven(ahci_port *port)
 {
@@ -115,7 +115,7 @@ static int driven(ahci_port *port)
     if (status == AHCI_OUT_OF_MEMORY) {
         lacking++;
         if (written.did != AHCI_WROTE_SOME || written.tag != 0 || differs(before, seen(port)))
-            wrong("PxCI", "the slot is not told");
+            wrong("PxCI", "the slot is not named");
         status = ahci_port_write_register(port, 0x138, 1, list, sizeof list, windows, sizeof windows, &written);
     }
     if (status != AHCI_OK || written.slots != 1)

@@ -101,7 +101,7 @@ struct wire interrupts_wire(struct vfio_interrupts *interrupts) {
 
 /* ---- what is asked ---- */
 
-int interrupts_tell(struct vfio_irq_info *info) {
+int interrupts_info(struct vfio_irq_info *info) {
     if (info->index > VFIO_MSIX) /* QEMU warns that it can't enable the others if there are none of them */
         return EINVAL;
     info->argsz = sizeof *info;

@@ -24,7 +24,7 @@ void interrupts_begin(struct vfio_interrupts *interrupts);
 struct wire interrupts_wire(struct vfio_interrupts *interrupts);
 
 /* What GET_IRQ_INFO and SET_IRQS ask. The answer is 0 or an errno. */
-int interrupts_tell(struct vfio_irq_info *info);
+int interrupts_info(struct vfio_irq_info *info);
 int interrupts_set(struct vfio_interrupts *interrupts, const struct vfio_irq_set *set, const uint8_t *data, size_t bytes, struct files *files);
 
 /* The eventfd `unmask` is readable. */

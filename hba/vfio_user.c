@@ -58,7 +58,7 @@ static bool agree(struct vfio_user *it, const struct vfio_message *message) {
     return reply_both(it, message, &version, sizeof version, ours, sizeof ours);
 }
 
-static bool tell_device(struct vfio_user *it, const struct vfio_message *message) {
+static bool answer_device(struct vfio_user *it, const struct vfio_message *message) {
     const struct vfio_device_info info = {.argsz = sizeof info, .flags = VFIO_INFO_RESET | VFIO_INFO_PCI, .regions = VFIO_REGIONS, .irqs = VFIO_IRQ_KINDS};
     return reply(it, message, &info, sizeof info);
 }
@@ -67,7 +67,7 @@ static uint64_t size_of_region(uint32_t index) {
     return index == VFIO_BAR5 ? PCI_BAR_BYTES : index == VFIO_CONFIG ? PCI_CONFIG_BYTES : 0;
 }
 
-static bool tell_region(struct vfio_user *it, const struct vfio_message *message) {
+static bool answer_region(struct vfio_user *it, const struct vfio_message *message) {
     struct vfio_region_info info;
     memcpy(&info, message->data, sizeof info);
     if (info.index >= VFIO_REGIONS)
@@ -78,7 +78,7 @@ static bool tell_region(struct vfio_user *it, const struct vfio_message *message
 }
 
 /* No part of a region has a file of its own. */
-static bool tell_io_files(struct vfio_user *it, const struct vfio_message *message) {
+static bool answer_io_files(struct vfio_user *it, const struct vfio_message *message) {
     struct vfio_io_files info;
     memcpy(&info, message->data, sizeof info);
     if (info.index >= VFIO_REGIONS)
@@ -87,10 +87,10 @@ static bool tell_io_files(struct vfio_user *it, const struct vfio_message *messa
     return reply(it, message, &info, sizeof info);
 }
 
-static bool tell_interrupts(struct vfio_user *it, const struct vfio_message *message) {
+static bool answer_interrupts(struct vfio_user *it, const struct vfio_message *message) {
     struct vfio_irq_info info;
     memcpy(&info, message->data, sizeof info);
-    int error = interrupts_tell(&info);
+    int error = interrupts_info(&info);
     return error ? answer(it, message, error) : reply(it, message, &info, sizeof info);
 }
 
@@ -216,10 +216,10 @@ static const struct handler handlers[] = {
     [VFIO_VERSION] = {sizeof(struct vfio_version), agree},
     [VFIO_DMA_MAP] = {sizeof(struct vfio_dma_map), map},
     [VFIO_DMA_UNMAP] = {sizeof(struct vfio_dma_unmap), unmap},
-    [VFIO_GET_INFO] = {0, tell_device},
-    [VFIO_GET_REGION_INFO] = {sizeof(struct vfio_region_info), tell_region},
-    [VFIO_GET_REGION_IO_FDS] = {sizeof(struct vfio_io_files), tell_io_files},
-    [VFIO_GET_IRQ_INFO] = {sizeof(struct vfio_irq_info), tell_interrupts},
+    [VFIO_GET_INFO] = {0, answer_device},
+    [VFIO_GET_REGION_INFO] = {sizeof(struct vfio_region_info), answer_region},
+    [VFIO_GET_REGION_IO_FDS] = {sizeof(struct vfio_io_files), answer_io_files},
+    [VFIO_GET_IRQ_INFO] = {sizeof(struct vfio_irq_info), answer_interrupts},
     [VFIO_SET_IRQS] = {sizeof(struct vfio_irq_set), set_interrupts},
     [VFIO_REGION_READ] = {sizeof(struct vfio_access), read_region},
     [VFIO_REGION_WRITE] = {sizeof(struct vfio_access), write_region},

@@ -18,7 +18,7 @@ PX_CMD, PX_SACT, PX_CI = Register.PXCMD, Register.PXSACT, Register.PXCI
 
 
 def refused(status: Status, call: Callable[[], object], slot: Optional[int] = None) -> None:
-    """A call is refused for this reason, and tells this slot."""
+    """A call is refused for this reason, and names this slot."""
     try:
         call()
     except ahci.Refused as why:
@@ -86,7 +86,7 @@ def failing_queue() -> None:
         port.acknowledge(0x40000000)
         assert port.register(0x110) == 8
 
-        # the port stops and starts, and the log tells the tag: it has its answer, and the others are held
+        # the port stops and starts, and the log names the tag: it has its answer, and the others are held
         assert port.recover() == 2 and port.entry(16) == Entry(0, 0, Event.RECOVER, 2, 0)
         refused(Status.NOT_HALTED, port.recover)
         state = port.state()
@@ -164,7 +164,7 @@ def layers() -> None:
 
 
 def wide_numbers() -> None:
-    """No number is cut to its width: one that doesn't fit is told, with its name, and the largest that fits reaches the library."""
+    """No number is cut to its width: one that doesn't fit is refused, with its name, and the largest that fits reaches the library."""
     with Port.zeros(sectors=8, depth=4) as port:
         calls: Dict[Tuple[str, int], Tuple[Callable[[int], object], ...]] = {
             ("depth", 32): (lambda it: Port(bytes(512), it), lambda it: Port.zeros(1, it), lambda it: ahci.identify_page(1, it), lambda it: ahci.journal_check(1, it, [])),
@@ -340,7 +340,7 @@ def without_memory(call: Callable[[], object], more: int) -> ahci.OutOfMemory:
 
 
 def memory() -> None:
-    """What is told where the system gives no memory; and that a port's goes with its object."""
+    """What is reported where the system gives no memory; and that a port's goes with its object."""
     without_memory(lambda: Port.zeros(131072, 32), 16 << 20)
     image = bytes(64 << 20)
     without_memory(lambda: Port(image, 32), 16 << 20)

@@ -75,7 +75,7 @@ def one_tag_for_all() -> None:
 
 
 def free_while_called() -> None:
-    """One thread frees the port that the others call: they are told that there is none."""
+    """One thread frees the port that the others call: they learn that there is none."""
     for _ in range(20):
         port = Port.zeros(sectors=8, depth=4)
 

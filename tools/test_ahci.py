@@ -153,13 +153,13 @@ class Ahci(unittest.TestCase):
 
     def test_a_file_among_the_arguments_is_refused_with_the_way_to_give_it(self) -> None:
         self.write("script", "disk 1 1\n")
-        told = f"ahci: replay reads standard input and opens no file; give {self.room}/script by '<': ./ahci replay < {self.room}/script"
-        self.assertEqual((2, "", [told]), self.run_with("replay", f"{self.room}/script"))
+        reported = f"ahci: replay reads standard input and opens no file; give {self.room}/script by '<': ./ahci replay < {self.room}/script"
+        self.assertEqual((2, "", [reported]), self.run_with("replay", f"{self.room}/script"))
         self.assertEqual([], self.calls())
         for words in (["replay", f"{self.room}/none"], ["identify", f"{self.room}/script"], ["run", "--depth", f"{self.room}/script"]):
             self.assertEqual("an answer\n", self.run_with(*words)[1], words)
         self.build()
-        self.assertEqual((2, "", [told]), self.run_with("replay", f"{self.room}/script"))
+        self.assertEqual((2, "", [reported]), self.run_with("replay", f"{self.room}/script"))
 
     def test_a_pipe_without_a_reader_is_no_complaint(self) -> None:
         complaint = "#!/bin/sh\necho 'ahci: output failed' >&2\necho another >&2\nexit 1\n"

@@ -288,9 +288,9 @@ class Builds(unittest.TestCase):
     def test_a_check_that_does_not_say_that_it_proved_is_none(self) -> None:
         for said in ("logic=not-proved functions=1", "nothing", "low: logic=proved functions=1"):
             self.write("crates/low/src/lib.rt", f"says {said}")
-            status, told, calls = self.build()
+            status, printed, calls = self.build()
             self.assertEqual(status, 1, said)
-            self.assertIn(f"low is not proved; the whole log is in crates/ahci/out/rlib/low/log\n{said}\n", told)
+            self.assertIn(f"low is not proved; the whole log is in crates/ahci/out/rlib/low/log\n{said}\n", printed)
             self.assertNotIn("middle", calls)
             self.assertFalse(os.path.exists(f"{self.made}/low/stamp"))
 

@@ -92,7 +92,7 @@ class Manual(unittest.TestCase):
                 text.write(PROGRAM.replace('case "$*" in\n', f'case "$*" in\n{words}) exit 1 ;;\n'))
             ran = subprocess.run([f"{HERE}/manual", self.program], capture_output=True, text=True, check=False)
             self.assertEqual((ran.returncode, ran.stdout), (1, ""), words)
-            self.assertIn("does not tell its help", ran.stderr)
+            self.assertIn("does not print its help", ran.stderr)
 
     def test_files_are_completed_where_the_usage_has_one(self) -> None:
         script = run(f"{HERE}/manual", "--completion", self.program)
@@ -104,7 +104,7 @@ class Manual(unittest.TestCase):
     def test_a_program_without_help_is_told(self) -> None:
         ran = subprocess.run([f"{HERE}/manual", "/nowhere"], capture_output=True, text=True, check=False)
         self.assertEqual((ran.returncode, ran.stdout), (1, ""))
-        self.assertIn("manual: /nowhere does not tell its help", ran.stderr)
+        self.assertIn("manual: /nowhere does not print its help", ran.stderr)
 
 
 if __name__ == "__main__":

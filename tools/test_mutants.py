@@ -1,5 +1,5 @@
 #!/usr/bin/env python3
-"""Sees which mutations tools/mutants makes, of which functions, and that it tells what is let through, with small programs in the place of
+"""Sees which mutations tools/mutants makes, of which functions, and that it reports what is let through, with small programs in the place of
 `rattle` and `rt`.
 
     tools/test_mutants.py
@@ -403,8 +403,8 @@ class Limits(unittest.TestCase):
             minutes = [100.0]
             crate, found = SlowCrate(minutes), {}  # type: SlowCrate, Dict[str, str]
             changes = [Changed("two") for _ in range(5)]  # of one function, so each needs a check of its own
-            told = crate.rounds(changes, found, Limit(limit, lambda: 60 * minutes[0]))  # pylint: disable=cell-var-from-loop
-            self.assertEqual((checks, 5 - checks, []), (told.checks, len(told.untried), told.unrefused), limit)
+            done = crate.rounds(changes, found, Limit(limit, lambda: 60 * minutes[0]))  # pylint: disable=cell-var-from-loop
+            self.assertEqual((checks, 5 - checks, []), (done.checks, len(done.untried), done.unrefused), limit)
             self.assertEqual({"two": CLAUSE} if checks else {}, found)
 
 

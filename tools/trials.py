@@ -44,7 +44,7 @@ class Change(Protocol):
 
     @property
     def name(self) -> str:
-        """What it is told by."""
+        """What it is named by."""
 
     @property
     def is_whole(self) -> bool:

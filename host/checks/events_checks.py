@@ -123,7 +123,7 @@ WRONG_FOR_NBD: Sequence[Tuple[str, int, str, str]] = (
 
 
 def wrong_lines(room: str) -> str:
-    """Each wrong line is told, with its place, what was expected and what is there; and none of the right ones beside them is printed."""
+    """Each wrong line is reported, with its place, what was expected and what is there; and none of the right ones beside them is printed."""
     for server, cases in (("hba", WRONG), ("nbd", WRONG_FOR_NBD)):
         path = written(room, "".join(f"on first any do fail 40\n{line}\n" for line, *_ in cases))
         status, printed, said = judged(server, path)
@@ -195,15 +195,15 @@ def as_the_model(room: str) -> str:
     rng, events = random.Random(20), 0
     for _ in range(40):
         lines = [events_model.Line(rng, row) for row in range(1, rng.randrange(2, 9))]
-        told: List[str] = []
+        reported: List[str] = []
         wanted: List[str] = []
         for command in events_model.some_commands(rng, 150):
-            told += [command.text(), f"time {command.since}"]
+            reported += [command.text(), f"time {command.since}"]
             wanted += ["; ".join(events_model.decided(lines, command)), "; ".join(events_model.taken(lines, command.since))]
         script = "".join(f"{it.text()}\n" for it in lines)
-        found = happened(room, script, told)[:len(told)]
-        wrong = next((at for at in range(len(told)) if found[at] != wanted[at]), None)
-        expect(wrong is None, f"{script}{told[wrong or 0]}: {found[wrong or 0]}, and {wanted[wrong or 0]} is right")
+        found = happened(room, script, reported)[:len(reported)]
+        wrong = next((at for at in range(len(reported)) if found[at] != wanted[at]), None)
+        expect(wrong is None, f"{script}{reported[wrong or 0]}: {found[wrong or 0]}, and {wanted[wrong or 0]} is right")
         events += sum(it != "" for it in wanted)
     return f"{events} decisions"
 

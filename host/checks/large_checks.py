@@ -48,7 +48,7 @@ class FarLife(Life):
 
     def fill(self, lba: int, count: int, byte: int) -> None:
         count = min(count, LARGEST - lba)
-        self.probe.tell(f"fill {lba} {count} {byte}")
+        self.probe.send(f"fill {lba} {count} {byte}")
         self.first.update({it: bytes((byte,)) * SECTOR for it in range(lba, lba + count)})
 
     def place(self, count: int) -> int:
@@ -57,7 +57,7 @@ class FarLife(Life):
             return area + self.draw.randrange(sectors + 20)  # some commands pass the end, and some are behind it
         return area + self.draw.randrange(sectors - count)
 
-    def tell(self, line: str) -> None:
+    def send(self, line: str) -> None:
         words = line.split()
         if words[0] in ("read", "write"):
             tag, lba, count = map(int, words[1:4])
@@ -73,7 +73,7 @@ class FarLife(Life):
         elif words[:2] == ["entry", str(RESET)]:
             self.ends.update({it.number: self.count for it in self.by_tag.values()})
             self.by_tag = {}
-        super().tell(line)
+        super().send(line)
 
     def accept(self, tag: int) -> None:
         """A command that passes the end of the disk fails then."""
@@ -87,7 +87,7 @@ class FarLife(Life):
     def idle(self) -> None:
         super().idle()
         if self.draw.random() < self.chance:
-            self.probe.tell(f"room {1 << 40}")
+            self.probe.send(f"room {1 << 40}")
             self.parts.append(self.count)
 
     def disk(self, number: int) -> Dict[int, bytes]:
@@ -227,7 +227,7 @@ def too_many_sectors(room: str) -> str:
     probe.answer()
     for at, (lba, count) in enumerate(((1 << 31, 65536), (7, 65536), (1 << 30, 1), (9, 1))):
         for line in (f"read 0 {lba} {count}", f"entry {ACCEPT} 0", "serve 0", f"entry {COLLECT} 0"):
-            probe.tell(line)
+            probe.send(line)
     expect(probe.end() == 0, "the record ended before")
     path = scripted(folder, os.path.join(room, "script"), "--to", "7")
     with open(path, encoding="ascii") as file:
@@ -246,10 +246,10 @@ def far_limit(room: str) -> str:
     probe.answer()
     for at in range(40):
         lba = 2000 * at + 7
-        probe.tell(f"fill {2000 * at} 2000 5")
-        probe.tell(f"space 1 {count}")
+        probe.send(f"fill {2000 * at} 2000 5")
+        probe.send(f"space 1 {count}")
         for line in (f"write 0 {lba} {count} {at} 1 0", f"entry {ACCEPT} 0", "serve 0", f"entry {COLLECT} 0"):
-            probe.tell(line)
+            probe.send(line)
         probe.ask("sync")
         largest = max(largest, size_of(folder))
     expect(probe.end() == 0, "the record ended before")

@@ -81,15 +81,15 @@ def reader(image: bytes) -> Callable[[int], bytes]:
 def cases(room: str) -> str:
     """Each line of the rule, by what it allows and what it doesn't: as the record's loss, and as what an image has after a record."""
     for at, (steps, left, has_cache, is_allowed) in enumerate(CASES):
-        told = f"`{steps}` with{'' if has_cache else 'out'} a cache, and {left}"
+        reported = f"`{steps}` with{'' if has_cache else 'out'} a cache, and {left}"
         entries, image = [step(it.strip()) for it in steps.split(";")], letters(left)
         ended = judge_end(recorded(os.path.join(room, f"end{at}"), entries), has_cache, reader(image))
-        expect((not ended) == is_allowed, f"{told}: {ended or 'nothing is wrong'}")
+        expect((not ended) == is_allowed, f"{reported}: {ended or 'nothing is wrong'}")
         later: List[List[bytes]] = [[], [entry(FLUSH), step("w 3 0 zzzz"), step("s 3")]]
         for more in later:
             record = recorded(os.path.join(room, f"loss{at}{len(more)}"), [*entries, entry(LOSS), entry(LEFT, count=SECTORS, data=image), *more])
             losses = judge_losses(record, has_cache)
-            expect(len(losses) == 1 and (not losses[0].fault) == is_allowed, f"{told}: {losses}")
+            expect(len(losses) == 1 and (not losses[0].fault) == is_allowed, f"{reported}: {losses}")
     return f"{len(CASES)} cases"
 
 

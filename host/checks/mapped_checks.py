@@ -128,7 +128,7 @@ def left(image: str, data: bytes, byte: int) -> bytes:
     probe = Probe(["mapped", image, "0"], preexec_fn=limited, restore_signals=False)
     expect(probe.answer() == "disk 4096", "it did not start")
     for it in fills:
-        probe.tell(line(it))
+        probe.send(line(it))
     said = probe.ask("save")
     expect(said == f"said --image {image}: it can't be written back: File too large; {image}.journal has the 15 pages, for the next write-back or the next server", said)
     expect(probe.answer() != "saved 0", "the write-back counts as done")
@@ -166,14 +166,14 @@ def a_left_journal(room: str) -> str:
 
 
 def mapped_beyond_a_limit(room: str) -> str:
-    """A write-back that ends on the way is told, and the next one writes its pages and newer ones; no older journal comes back over them."""
+    """A write-back that ends on the way is reported, and the next one writes its pages and newer ones; no older journal comes back over them."""
     image = os.path.join(room, "disk")
     data = made(image, 2 * MIB)
     probe = Probe(["mapped", image, "0"], preexec_fn=limited, restore_signals=False)
     probe.answer()
     for byte in (1, 2):
-        probe.tell(line((3000, 10, byte)))
-        probe.tell(line((byte, 1, byte)))
+        probe.send(line((3000, 10, byte)))
+        probe.send(line((byte, 1, byte)))
         expect("has the" in probe.ask("save") and probe.answer() != "saved 0", "the write-back counts as done")
         expect(names(image) == ["disk.journal"], f"{names(image)}")
     resource.prlimit(probe.process.pid, resource.RLIMIT_FSIZE, (resource.RLIM_INFINITY, resource.RLIM_INFINITY))
@@ -190,12 +190,12 @@ def no_room_for_a_journal(room: str) -> str:
         made(filler, MIB - 8192)
         probe = Probe(["mapped", image, "0"])
         probe.answer()
-        probe.tell(line((0, 4096, 3)))
+        probe.send(line((0, 4096, 3)))
         said = probe.ask("save")
         expect(said == f"said --image {image}: it can't be written back: {image}.journal.new: No space left on device; 512 pages have changed, and it is as it was", said)
         expect(probe.answer() != "saved 0" and names(image) == [] and contents(image) == data, "the image has changed, or a file is left")
         os.remove(filler)
-        probe.tell(line((0, 2000, 4)))
+        probe.send(line((0, 2000, 4)))
         expect(probe.ask("save") != "saved 0", "there is room for 2 MiB twice in 3 MiB")
         probe.answer()
         subprocess.run(["mount", "-o", "remount,size=8m", place], check=True)
@@ -206,12 +206,12 @@ def no_room_for_a_journal(room: str) -> str:
 
 def shorter_and_replaced(room: str) -> str:
     """FILE that has become shorter is not written, and its pages are in the journal; FILE that is another one is not written either; a file that can't be
-    written is told at the first write-back."""
+    written is reported at the first write-back."""
     image = os.path.join(room, "disk")
     data = made(image, MIB)
     probe = Probe(["mapped", image, "0"])
     probe.answer()
-    probe.tell(line((0, 1, 9)))
+    probe.send(line((0, 1, 9)))
     os.truncate(image, MIB - 1)
     said = probe.ask("save")
     expect(f"it has become shorter, {MIB - 1} bytes instead of {MIB}; {image}.journal has the 1 pages" in said and probe.answer() != "saved 0", said)
@@ -223,7 +223,7 @@ def shorter_and_replaced(room: str) -> str:
     expect(contents(image) == filled(data, (0, 1, 9)) and names(image) == [], "the journal was not applied")
     probe = Probe(["mapped", image, "0"])
     probe.answer()
-    probe.tell(line((0, 1, 8)))
+    probe.send(line((0, 1, 8)))
     os.rename(image, f"{image}.moved")
     other = made(image, MIB, 7)
     expect("this is no longer the file of the start; 1 pages have changed" in probe.ask("save") and probe.answer() != "saved 0", "it was written")
@@ -287,9 +287,9 @@ def killed_at_random(room: str) -> str:
         probe = Probe(["mapped", image, "0"])
         probe.answer()
         for it in fills:
-            probe.tell(line(it))
+            probe.send(line(it))
         begun = time.monotonic()
-        probe.tell("save")
+        probe.send("save")
         if at % 10 == 0:
             probe.answer()
             took = time.monotonic() - begun

@@ -33,7 +33,7 @@ class Probe:
     def __init__(self, words: List[str], **more: Any) -> None:
         self.process: "subprocess.Popen[str]" = subprocess.Popen([PROBE, *words], stdin=subprocess.PIPE, stdout=subprocess.PIPE, text=True, **more)
 
-    def tell(self, line: str) -> None:
+    def send(self, line: str) -> None:
         assert self.process.stdin
         self.process.stdin.write(f"{line}\n")
         self.process.stdin.flush()
@@ -43,7 +43,7 @@ class Probe:
         return str(self.process.stdout.readline()).rstrip("\n")
 
     def ask(self, line: str) -> str:
-        self.tell(line)
+        self.send(line)
         return self.answer()
 
     def end(self) -> int:

@@ -28,12 +28,12 @@ class Life:
         self.sectors: Dict[int, Tuple[int, int]] = {}  # by tag: where its command begins, and how many it has
         self.count = 0  # of entries
 
-    def tell(self, line: str) -> None:
-        self.probe.tell(line)
+    def send(self, line: str) -> None:
+        self.probe.send(line)
         self.count += 1
 
     def entry(self, kind: int, tag: int = 0) -> None:
-        self.tell(f"entry {kind} {tag}")
+        self.send(f"entry {kind} {tag}")
 
     def issue(self) -> None:
         draw = self.draw
@@ -42,9 +42,9 @@ class Life:
         lba = self.place(count)
         self.sectors[tag] = (lba, count)
         if draw.random() < 0.4:
-            self.tell(f"read {tag} {lba} {count}")
+            self.send(f"read {tag} {lba} {count}")
         else:
-            self.tell(f"write {tag} {lba} {count} {draw.randrange(256)} {int(draw.random() < 0.7)} {int(draw.random() < 0.1)}")
+            self.send(f"write {tag} {lba} {count} {draw.randrange(256)} {int(draw.random() < 0.7)} {int(draw.random() < 0.1)}")
         self.issued.append(tag)
 
     def place(self, count: int) -> int:
@@ -59,7 +59,7 @@ class Life:
     def fail(self, tag: int) -> None:
         """A command fails; then the port recovers and the rest is issued again, or a reset drops it."""
         lba, count = self.sectors[tag]
-        self.tell(f"fail {tag} 40 {lba + self.draw.randrange(count)}")
+        self.send(f"fail {tag} 40 {lba + self.draw.randrange(count)}")
         if self.draw.random() < 0.2:
             self.reset()
             return
@@ -81,7 +81,7 @@ class Life:
 
     def serve(self) -> None:
         tags = self.draw.sample(self.accepted, min(len(self.accepted), self.draw.choice([1, 1, 2, 5])))
-        self.tell("serve " + " ".join(map(str, tags)))
+        self.send("serve " + " ".join(map(str, tags)))
         self.accepted = [it for it in self.accepted if it not in tags]
         if self.draw.random() < self.resets:
             self.reset()
@@ -92,7 +92,7 @@ class Life:
     def idle(self) -> None:
         """What needs a queue without requests."""
         self.entry(self.draw.choice([FLUSH, IDENTIFY, TRIM, READ_LOG]))
-        self.probe.tell(f"room {MIB}")
+        self.probe.send(f"room {MIB}")
 
     def step(self) -> None:
         chance = self.draw.random()
@@ -161,7 +161,7 @@ def parts(room: str) -> str:
                 life.entry(ACCEPT, life.accepted[-1])
             else:
                 life.serve()
-        probe.tell(f"room {4 * MIB}")
+        probe.send(f"room {4 * MIB}")
         probe.ask("sync")
         largest = max(largest, size_of(folder))
     expect(probe.end() == 0, "the record ended before")
@@ -241,7 +241,7 @@ def stretch_words(room: str) -> str:
     for pause, (lba, byte) in ((0.0, (0, 1)), (1.2, (1, 2)), (0.0, (0, 3))):
         time.sleep(pause)
         for line in (f"write 0 {lba} 1 {byte} 0 0", f"entry {ACCEPT} 0", "serve 0", f"entry {COLLECT} 0"):
-            probe.tell(line)
+            probe.send(line)
         probe.ask("sync")
     probe.end()
 
@@ -285,7 +285,7 @@ def a_long_script(room: str) -> str:
     probe.answer()
     for at in range(700):
         for line in (f"write 0 {128 * at} 128 {at % 256} 1 0", f"entry {ACCEPT} 0", "serve 0", f"entry {COLLECT} 0"):
-            probe.tell(line)
+            probe.send(line)
     expect(probe.end() == 0, "the record ended before")
     with open(script, "wb") as file:
         done = stretch(["script", folder], stdout=file)

@@ -5,7 +5,7 @@ import os
 import time
 from typing import List, Tuple
 
-from harness import PLUGIN, SECTOR, Check, Failed, counted, fio, must_be_clean, ran, replayed, scripted, sectors_of, serving, told, tool
+from harness import PLUGIN, SECTOR, Check, Failed, counted, fio, must_be_clean, ran, replayed, scripted, sectors_of, serving, summary_of, tool
 import pace
 from records import ACCEPT, FAIL, READ, RECOVER, REISSUE, SERVE, WRITE, Entry, Record
 
@@ -26,7 +26,7 @@ def a_failing_sector(room: str) -> str:
     if kinds.count(FAIL) != 2 or kinds.count(RECOVER) != 2:
         raise Failed("the record has other failures")
     replayed(scripted(record, f"{record}.ahci"))
-    return told(server)
+    return summary_of(server)
 
 
 def one_request_fails(room: str) -> str:
@@ -35,7 +35,7 @@ def one_request_fails(room: str) -> str:
         said = qemu_io(server.uri, "read 50688 512", "read 51200 512", "read 51200 512")
         if said.count("Input/output error") != 1 or said.count("read 512/512 bytes") != 2:
             raise Failed(said)
-    return told(server)
+    return summary_of(server)
 
 
 def qemu_io(uri: str, *commands: str) -> str:
@@ -68,7 +68,7 @@ def rules(room: str) -> str:
         if found != wanted:
             raise Failed(f"{' '.join(given)}: {found}, and {wanted} is right")
         if counted(server, "failures") != wanted.count("N") or counted(server, "recoveries") != wanted.count("N"):
-            raise Failed(f"{' '.join(given)}: {told(server)}")
+            raise Failed(f"{' '.join(given)}: {summary_of(server)}")
     return f"{len(cases)} rules"
 
 
@@ -89,12 +89,12 @@ def scripts(room: str) -> str:
         with serving(room, "sectors=64", f"script={path}", *given, says=f"^ahci: {path}:2: it never happened: on 900th any do fail 40$") as server:
             found = "".join("y" if it else "N" for it in outcomes(server.uri, [command.format(SECTOR * lba) for command, lba in commands]))
         if found != wanted or counted(server, "failures") != wanted.count("N"):
-            raise Failed(f"{script}: {found}, and {wanted} is right; {told(server)}")
+            raise Failed(f"{script}: {found}, and {wanted} is right; {summary_of(server)}")
     return f"{len(cases)} scripts"
 
 
 def wrong_scripts(room: str) -> str:
-    """A wrong script keeps the server from starting; each wrong line is told, with its place."""
+    """A wrong script keeps the server from starting; each wrong line is reported, with its place."""
     path = os.path.join(room, "it.events")
     with open(path, "w", encoding="utf-8") as file:
         file.write("on 2nd read do stall\non first read do fail 40\non read do fail 40\n")
@@ -190,7 +190,7 @@ def held_commands(room: str) -> str:
         must_be_clean(fio(server, "held", "--rw=randwrite", "--bs=4k", "--iodepth=32", "--size=4m", "--randseed=8"))
         fio(server, "held", "--rw=randrw", "--bs=4k", "--iodepth=32", "--size=4m", "--io_size=8m", "--continue_on_error=all", "--error_dump=0", "--randseed=8")
     if counted(server, "failures") < 10:
-        raise Failed(told(server))
+        raise Failed(summary_of(server))
     script = scripted(record, f"{record}.ahci")
     entries = list(Record(record).entries())
     reissued = sum(it.kind == REISSUE for it in entries)
@@ -198,7 +198,7 @@ def held_commands(room: str) -> str:
         raise Failed(f"{reissued} commands were issued again")
     if replayed(script) != sectors_of(record):
         raise Failed("the record plays to other sectors")
-    return f"{reissued} commands were issued again; {told(server)}"
+    return f"{reissued} commands were issued again; {summary_of(server)}"
 
 
 CHECKS = [Check(a_failing_sector, ["fio", "qemu-io"]), Check(one_request_fails, ["qemu-io"]), Check(rules, ["qemu-io"]), Check(scripts, ["qemu-io"]), Check(wrong_scripts), Check(rule_by_time, ["qemu-io"]), Check(rates, ["fio"]),

@@ -133,14 +133,14 @@ def out(server: Server, path: str) -> bytes:
         return file.read()
 
 
-def told(server: Server) -> str:
+def summary_of(server: Server) -> str:
     """The line with which the plugin ends."""
     return next((line[6:] for line in reversed(server.said().split("\n")) if line.startswith("ahci: ")), "")
 
 
 def counted(server: Server, what: str) -> int:
     """A number of that line."""
-    return next((int(part.strip().partition(" ")[0]) for part in told(server).split(",") if part.endswith(what)), 0)
+    return next((int(part.strip().partition(" ")[0]) for part in summary_of(server).split(",") if part.endswith(what)), 0)
 
 
 def replayed(script: str) -> bytes:

@@ -9,7 +9,7 @@ import subprocess
 import time
 from typing import Dict, Iterator, List
 
-from harness import MIB, PLUGIN, Check, Failed, Server, Skipped, fio, must_be_clean, out, ran, serving, told, tool
+from harness import MIB, PLUGIN, Check, Failed, Server, Skipped, fio, must_be_clean, out, ran, serving, summary_of, tool
 from files import contents, made
 import pace
 
@@ -24,11 +24,11 @@ def an_image(room: str) -> str:
         found = out(server, os.path.join(room, "back"))
     if contents(image) != found or found != b"\x77" * 4096 + data[4096:] + bytes(586 * 512 - 300_000):
         raise Failed("the image is not what the client read, or that is not what it was")
-    commands = int(told(server).partition(" ")[0])
+    commands = int(summary_of(server).partition(" ")[0])
     with serving(room, f"image={image}") as server:
         ran(["qemu-io", "-f", "raw", "-c", "read 0 512", server.uri])
-    if int(told(server).partition(" ")[0]) != 1 or sorted(os.listdir(room)) != ["back", "disk", "log"]:
-        raise Failed(f"one command was issued, and the port counts others: {told(server)}")
+    if int(summary_of(server).partition(" ")[0]) != 1 or sorted(os.listdir(room)) != ["back", "disk", "log"]:
+        raise Failed(f"one command was issued, and the port counts others: {summary_of(server)}")
     return f"{commands} commands"
 
 
@@ -41,7 +41,7 @@ def image_with_a_failing_sector(room: str) -> str:
         found = out(server, os.path.join(room, "back"))
     if said.count("Input/output error") != 1 or said.count("read 512/512 bytes") != 1 or found[512:] != data[512:] or found != contents(image):
         raise Failed(said)
-    return told(server)
+    return summary_of(server)
 
 
 @contextlib.contextmanager
@@ -74,7 +74,7 @@ def no_space_at_a_flush(room: str) -> str:
             ran(["qemu-io", "-t", "writeback", "-f", "raw", "-c", "flush", server.uri])
             if contents(image) != b"\x03" * 512 + data[512:]:
                 raise Failed("the second flush did not write the image")
-    return told(server)
+    return summary_of(server)
 
 
 def flushed_and_killed(room: str) -> str:
@@ -118,7 +118,7 @@ def sync_of_many(room: str) -> str:
             found = out(server, os.path.join(room, "back"))
             if found != contents(image) or len(found) != 512 * sectors or found[:100 << 10] != data[:100 << 10]:
                 raise Failed("the image is not what the client reads")
-    return told(server)
+    return summary_of(server)
 
 
 def killed_while_flushing(room: str) -> str:

@@ -10,7 +10,7 @@ import subprocess
 import time
 from typing import List
 
-from harness import MIB, PLAYER, PLUGIN, SECTOR, Check, Failed, Server, counted, fio, must_be_clean, ran, serving, told, tool
+from harness import MIB, PLAYER, PLUGIN, SECTOR, Check, Failed, Server, counted, fio, must_be_clean, ran, serving, summary_of, tool
 import pace
 from playing import far_plays, image_of
 from recording import size_of
@@ -40,7 +40,7 @@ def a_terabyte(room: str) -> str:
         formatted = server.own_memory()
         must_be_clean(fio(server, "large", *job, "--do_verify=1", "--verify_fatal=1"))
         late = server.own_memory()
-    written, counts = os.stat(image).st_blocks * 512, told(server)
+    written, counts = os.stat(image).st_blocks * 512, summary_of(server)
     if os.path.exists(f"{image}.journal") or os.path.getsize(image) != TIB or written < 256 * MIB:
         raise Failed(f"{os.listdir(room)}, of {os.path.getsize(image)} bytes with {written} on the disk")
     if late - early > 1.3 * written + 128 * MIB:
@@ -63,7 +63,7 @@ def a_terabyte_of_xfs(room: str) -> str:
     with open(image, "rb") as file:
         if file.read(4) != b"XFSB" or os.path.getsize(image) != TIB:
             raise Failed(f"the file is no file system of {os.path.getsize(image)} bytes")
-    return f"{os.stat(image).st_blocks // 2} KiB were written; {told(server)}"
+    return f"{os.stat(image).st_blocks // 2} KiB were written; {summary_of(server)}"
 
 
 def both_ends(room: str) -> str:
@@ -74,7 +74,7 @@ def both_ends(room: str) -> str:
                     "-c", f"read -P 2 {last} 512", "-c", f"write {last - 4096} 4608", "-c", f"read -P 0 {last - 512} 512", "-c", f"read {last + 512} 512", server.uri], status=1)
     if said.count("Input/output error") != 3 or said.count("read 512/512") != 4 or "Pattern verification failed" in said or server.said().count("2 failures") != 1:
         raise Failed(said)
-    return told(server)
+    return summary_of(server)
 
 
 def no_memory(room: str) -> str:
@@ -98,7 +98,7 @@ def no_memory(room: str) -> str:
         server.stop()
     if server.process.returncode:
         raise Failed(f"status {server.process.returncode}: {server.said()}")
-    return f"{len(stored)} of 600 MiB were stored; {told(server)}"
+    return f"{len(stored)} of 600 MiB were stored; {summary_of(server)}"
 
 
 def flat(room: str) -> str:
@@ -115,7 +115,7 @@ def flat(room: str) -> str:
             memory.append(server.own_memory())
         times.append(f"{size // MIB} MiB: start {1000 * (started - begun):.0f} ms, all {time.monotonic() - begun:.2f} s, {counted(server, 'trims')} trims, {memory[-1] // MIB} MiB of memory")
         if counted(server, "trims") < 16 or os.stat(image).st_blocks * 512 < 60 * MIB:
-            raise Failed(f"{told(server)}, {os.stat(image).st_blocks} blocks")
+            raise Failed(f"{summary_of(server)}, {os.stat(image).st_blocks} blocks")
         os.remove(image)
     if memory[-1] > memory[0] + 64 * MIB:
         raise Failed(f"{memory} bytes of memory")

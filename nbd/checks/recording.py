@@ -8,7 +8,7 @@ import subprocess
 import time
 from typing import List, Tuple
 
-from harness import MIB, PLAYER, PLUGIN, Check, Failed, Server, fio, must_be_clean, out, ran, replayed, scripted, sectors_of, serving, told
+from harness import MIB, PLAYER, PLUGIN, Check, Failed, Server, fio, must_be_clean, out, ran, replayed, scripted, sectors_of, serving, summary_of
 import pace
 import playing
 from records import COLLECT, READ, WRITE, Record, bounds
@@ -92,7 +92,7 @@ def an_image_recorded(room: str) -> str:
         raise Failed("the script has not the sectors that it needs, or has others")
     if replayed(scripted(folder, os.path.join(room, "all.ahci"), "--to", "7", "--all-sectors")) != sectors_of(folder, "--to", "7"):
         raise Failed("with --all-sectors some sector differs")
-    return told(server)
+    return summary_of(server)
 
 
 def a_limit(room: str) -> str:
@@ -166,14 +166,14 @@ def answered_and_killed(room: str) -> str:
 
 def same_commands(room: str) -> str:
     """A record does not change the work: the same requests become the same commands with and without it."""
-    told_of: List[Tuple[int, ...]] = []
+    counts_of: List[Tuple[int, ...]] = []
     for given in ([], [f"record={room}/record"]):
         with serving(room, "sectors=8192", *given) as server:
             must_be_clean(fio(server, "same", "--rw=randwrite", "--bs=64k", "--iodepth=32", "--size=4m", "--randseed=16"))
-        told_of.append(tuple(int(it.strip().partition(" ")[0]) for it in told(server).split(",")[:2]))
-    if told_of[0] != told_of[1] or told_of[0][0] != 64:
-        raise Failed(f"commands and tags: {told_of}")
-    return f"{told_of[0][0]} commands each"
+        counts_of.append(tuple(int(it.strip().partition(" ")[0]) for it in summary_of(server).split(",")[:2]))
+    if counts_of[0] != counts_of[1] or counts_of[0][0] != 64:
+        raise Failed(f"commands and tags: {counts_of}")
+    return f"{counts_of[0][0]} commands each"
 
 
 CHECKS = [Check(a_long_record, ["fio", "nbdcopy"]), Check(outstanding_commands, ["fio", "nbdcopy"]), Check(an_image_recorded, ["qemu-io", "nbdcopy"]),

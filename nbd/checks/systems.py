@@ -13,7 +13,7 @@ import tempfile
 import time
 from typing import Iterator, List, Tuple
 
-from harness import HERE, MIB, TOP, Check, Failed, Server, Skipped, ran, serving, told, tool
+from harness import HERE, MIB, TOP, Check, Failed, Server, Skipped, ran, serving, summary_of, tool
 import pace
 
 
@@ -92,7 +92,7 @@ def mounted_ext4(room: str) -> str:
             ran(["mkfs.ext4", "-q", "-F", device])
             count = with_files(room, device, os.path.join(room, "mount"))
             ran(["e2fsck", "-fn", device])
-    return f"{count} files; {told(server)}"
+    return f"{count} files; {summary_of(server)}"
 
 
 def mounted_btrfs(room: str) -> str:
@@ -102,7 +102,7 @@ def mounted_btrfs(room: str) -> str:
             ran(["mkfs.btrfs", "-q", "-f", "--mixed", device])
             count = with_files(room, device, os.path.join(room, "mount"))
             ran(["btrfs", "check", device])
-    return f"{count} files; {told(server)}"
+    return f"{count} files; {summary_of(server)}"
 
 
 def a_database(room: str) -> str:
@@ -120,7 +120,7 @@ def a_database(room: str) -> str:
                 if ran(["sqlite3", base, "pragma integrity_check; select count(*), sum(length(b)) from t;"]).split() != ["ok", "1333|266600"]:
                     raise Failed("the database is not what was written")
             ran(["e2fsck", "-fn", device])
-    return told(server)
+    return summary_of(server)
 
 
 UNPACKED = os.path.join(TOP, "hba", "out", "kernel")  # where hba/fetch unpacks Debian's kernel
@@ -202,7 +202,7 @@ def a_guest(room: str) -> str:
     with open(disk, "rb") as written, open(back, "rb") as read:
         if written.read() != read.read():
             raise Failed("the image is not what was read")
-    return told(server)
+    return summary_of(server)
 
 
 def page_commands(room: str) -> str:

@@ -6,7 +6,7 @@ import random
 import subprocess
 from typing import Dict, List
 
-from harness import MIB, PLUGIN, RACES_PLUGIN, Check, Failed, counted, fio, must_be_clean, out, ran, replayed, scripted, serving, told, tool
+from harness import MIB, PLUGIN, RACES_PLUGIN, Check, Failed, counted, fio, must_be_clean, out, ran, replayed, scripted, serving, summary_of, tool
 from records import ACCEPT, COLLECT, FLUSH, SERVE, WRITE, Record
 
 
@@ -33,9 +33,9 @@ def wrong_words(room: str) -> str:
                (["size=2199023255040", "fail=4294967295:40"], "the disk has 4294967295 sectors"), (["pick=low", "pick=high"], "pick= is given twice"),
                ([f"record={room}/record", "record-limit=1K"], "at least"),
                ([f"record={room}/record", "record-limit=20M", "size=1T"], "record-limit: a disk of 2147483648 sectors needs 21037152 bytes at least")]
-    for words, told_of in [*(([word], text) for word, text in wrong), *several]:
+    for words, counts_of in [*(([word], text) for word, text in wrong), *several]:
         done = tool(["nbdkit", "-f", "-U", os.path.join(room, "socket"), PLUGIN, *words, "--run", "true"])
-        if done.returncode != 1 or told_of not in done.stdout:
+        if done.returncode != 1 or counts_of not in done.stdout:
             raise Failed(f"{' '.join(words[:2])}: status {done.returncode}, {done.stdout}")
     found = tool(["nbdkit", "-f", "-U", os.path.join(room, "socket"), PLUGIN, "16M", "--run", 'nbdinfo --size "$uri"'])
     if "16777216" not in found.stdout:
@@ -48,7 +48,7 @@ def verified_writes(room: str) -> str:
     with serving(room, "pick=random", "seed=7") as server:
         must_be_clean(fio(server, "verify", "--rw=randwrite", "--bsrange=4k-64k", "--iodepth=32", "--size=64m", "--verify=crc32c",
                           "--do_verify=1", "--verify_fatal=1", "--randseed=5"))
-    return told(server)
+    return summary_of(server)
 
 
 def mixed_jobs(room: str) -> str:
@@ -58,10 +58,10 @@ def mixed_jobs(room: str) -> str:
         with serving(room, "pick=random", "seed=3", "together=4", f"delay={delay}") as server:
             must_be_clean(fio(server, "mixed", "--rw=randrw", "--bs=4k", "--iodepth=32", "--size=64m", f"--io_size={max(1, 320 // delay)}m", "--numjobs=2", "--group_reporting"))
         if not counted(server, "lists of several tags") or not counted(server, "of them out of order"):
-            raise Failed(f"no tags were completed together, or out of order: {told(server)}")
-        if "32 tags at most" in told(server):
-            return told(server)
-    raise Failed(f"the queue was never full: {told(server)}")
+            raise Failed(f"no tags were completed together, or out of order: {summary_of(server)}")
+        if "32 tags at most" in summary_of(server):
+            return summary_of(server)
+    raise Failed(f"the queue was never full: {summary_of(server)}")
 
 
 def long_requests(room: str) -> str:
@@ -80,7 +80,7 @@ def long_requests(room: str) -> str:
     most = max(it.count for it in Record(f"{room}/record").entries() if it.kind == WRITE)
     if most != 8192:
         raise Failed(f"a command had {most} sectors, and 8192 are the most")
-    return told(server)
+    return summary_of(server)
 
 
 def chosen_tags(room: str) -> str:
@@ -133,7 +133,7 @@ def bits_and_flushes(room: str) -> str:
         raise Failed(f"the flush is not there, or elsewhere: {kinds}")
     if replayed(f"{record}.ahci") != found:
         raise Failed("the record plays to other sectors")
-    return told(server)
+    return summary_of(server)
 
 
 def waiting_flushes(room: str) -> str:
@@ -149,7 +149,7 @@ def waiting_flushes(room: str) -> str:
             raise Failed(f"entry {it.number}: a flush with {outstanding} commands outstanding")
     if flushes < 100:
         raise Failed(f"there were {flushes} flushes")
-    return f"{flushes} flushes; {told(server)}"
+    return f"{flushes} flushes; {summary_of(server)}"
 
 
 def a_file_system(room: str) -> str:
@@ -170,7 +170,7 @@ def a_file_system(room: str) -> str:
         with open(took, "rb") as file:
             if file.read() != data:
                 raise Failed(f"{name} came back otherwise")
-    return told(server)
+    return summary_of(server)
 
 
 def written_files(room: str, image: str) -> Dict[str, bytes]:
@@ -194,7 +194,7 @@ def by_qemu(room: str) -> str:
         ran(["qemu-img", "convert", "-n", "-f", "raw", "-O", "raw", image, server.uri])
         ran(["qemu-img", "compare", "-f", "raw", "-F", "raw", image, server.uri])
         ran(["qemu-io", "-f", "raw", "-c", "write -f -P 0x5a 1M 256k", "-c", "read -P 0x5a 1M 256k", "-c", "flush", server.uri])
-    return told(server)
+    return summary_of(server)
 
 
 def bounded_memory(room: str) -> str:
@@ -207,14 +207,14 @@ def bounded_memory(room: str) -> str:
         late = server.memory()
     if late > early + 64 * MIB:
         raise Failed(f"{early // MIB} MiB after 256 MiB of writes, {late // MIB} MiB after 10 GiB and 500,000 reads")
-    return f"{early // MIB} MiB, then {late // MIB} MiB; {told(server)}"
+    return f"{early // MIB} MiB, then {late // MIB} MiB; {summary_of(server)}"
 
 
 def parts_among_others(room: str) -> str:
     """Requests of several commands among short ones of four clients, so that the threads of some play the device more than once."""
     with serving(room) as server:
         must_be_clean(fio(server, "parts", "--rw=randwrite", "--bssplit=4k/90:9m/10", "--iodepth=32", "--size=63m", "--number_ios=400", "--numjobs=4", "--norandommap", "--group_reporting"))
-    return told(server)
+    return summary_of(server)
 
 
 def no_races(room: str) -> str:
@@ -226,7 +226,7 @@ def no_races(room: str) -> str:
         record = os.path.join(room, f"record{len(given)}")
         with serving(room, "sectors=8192", "fail=100:40:3", "pick=random", "together=3", f"record={record}", *given, plugin=RACES_PLUGIN, environment=environment) as server:
             fio(server, "races", "--rw=randrw", "--bs=4k", "--iodepth=32", "--size=4m", "--io_size=8m", "--numjobs=3", "--continue_on_error=all", "--fsync=64", "--error_dump=0")
-        last = told(server)
+        last = summary_of(server)
     return last
 
 
