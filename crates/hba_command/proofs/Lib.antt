@@ -1,2 +1,3 @@
 pub mod UncorrectableLemmas
 pub mod WideNameLemmas
+pub mod HostLogLemmas
