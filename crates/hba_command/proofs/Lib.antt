@@ -1,3 +1,4 @@
 pub mod UncorrectableLemmas
 pub mod WideNameLemmas
 pub mod HostLogLemmas
+pub mod HostLogLaws

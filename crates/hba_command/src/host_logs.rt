@@ -1,8 +1,9 @@
 //! The logs that are the host's (ACS-3, "Host Specific logs").
 
-ghost use Rattle.std.specs.Prelude.{◌≡◌, ◌*◌, ◌+◌, ◌<◌, ◌≤◌, ◌++◌, [], length, IfOk, OnOk};
+ghost use Rattle.std.specs.Prelude.{◌≡◌, ℕ, ◌*◌, ◌+◌, ◌<◌, ◌≤◌, ◌++◌, ◌==◌, ◌&&◌, false, [], length, drop, replicate, take, IfOk, OnOk};
 ghost use Rattle.std.specs.List.{find};
 ghost use Rattle.hba_command.specs.HostLogs.{host_page, host_pages, is_one_of, is_page, others, page_of, pages_of, rewritten};
+ghost use Rattle.hba_command.specs.Uncorrectable.{is_among};
 
 use crate::host_page::HostPage;
 use crate::host_pages::HostPages;
@@ -143,3 +144,17 @@ impl<A: Allocator + Copy> HostLogs<A> {
         Ok(HostLogs { written })
     }
 }
+
+/// What follows for a reader once some pages are written with data, which have 512 bytes for each: a page that was written has its bytes of the data, each other
+/// page is as before, and without any write all are zeros. The function changes nothing: it stands for its clauses.
+#[tactic(auto, using(crate::proofs::HostLogLaws::reads_back, crate::proofs::HostLogLaws::stays))]
+pub fn a_page_is_what_was_written_last<A: Allocator>(
+    logs: &HostLogs<A>,
+    pages: &HostPages,
+    bytes: &[u8],
+)
+    requires { length bytes.now ≡ 512 * pages.now.count }
+    ensures written { (index : ℕ) → index < pages.now.count → host_page (rewritten pages.now bytes.now logs.now) pages.now.log (pages.now.first + index) ≡ take 512 (drop (512 * index) bytes.now) }
+    ensures others { (log number : ℕ) → (log == pages.now.log && is_among pages.now.first pages.now.count number) ≡ false → host_page (rewritten pages.now bytes.now logs.now) log number ≡ host_page logs.now log number }
+    ensures new { (log number : ℕ) → host_page [] log number ≡ replicate 512 0 }
+{}

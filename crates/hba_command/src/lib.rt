@@ -50,7 +50,7 @@ pub use disk_pages::ready_page;
 pub use entry::PrdEntry;
 pub use fis::command_fis;
 pub use header::CommandHeader;
-pub use host_logs::HostLogs;
+pub use host_logs::{HostLogs, a_page_is_what_was_written_last};
 pub use host_page::HostPage;
 pub use host_pages::HostPages;
 pub use identity::Identity;
