@@ -333,8 +333,9 @@ static void asks(struct command *it, const uint8_t *fis)
         it->is_smart = code == 0xB0;
         it->pages = code == 0xB0 ? fis[12] : count;
     }
-    it->has_48_bits = it->kind != CONTROL && (it->queued || (it->kind == PAGE && (code == 0x2F || code == 0x47)) || (it->kind == STORE && (code == 0x06 || code == 0x3F || code == 0x57)) || code == 0x24
-        || code == 0x25 || code == 0x27 || code == 0x29 || code == 0x39 || code == 0xCE || code == 0x34 || code == 0x35 || code == 0x3D || code == 0x42 || code == 0xEA || spoils(fis));
+    it->has_48_bits = it->kind != CONTROL && (it->queued || (it->kind == PAGE && (code == 0x2F || code == 0x47)) || (it->kind == STORE && (code == 0x06 || code == 0x3F || code == 0x57))
+        || code == 0x24 || code == 0x25 || code == 0x27 || code == 0x29 || code == 0x39 || code == 0xCE || code == 0x34 || code == 0x35 || code == 0x3D || code == 0x42 || code == 0xEA
+        || spoils(fis));
     it->moved = it->kind == PAGE || it->kind == STORE ? it->pages * AHCI_PAGE_BYTES : code == 0x40 || code == 0x42 || code == 0x45 ? 0 : (uint64_t)it->sectors * AHCI_SECTOR_BYTES;
 }
 
