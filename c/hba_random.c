@@ -279,10 +279,18 @@ static uint32_t lay_list(uint8_t *to, uint32_t moved)
     return shape == NONE ? 0 : shape == ANY_LENGTH && byte() % 4 == 0 ? word() & 0xFFFF : shape == MORE ? count + byte() % 64 : count;
 }
 
+/* Mostly one of the host's logs. */
+static uint8_t of_host(uint8_t pick)
+{
+    static const uint8_t logs[] = { 0x80, 0x81, 0x80, 0x81, 0x80, 0x9F, 0x7F, 0xA0 };
+    return logs[pick % 32 == 6 ? 6 + pick / 128 : pick % 6];
+}
+
 /* The fields of SET FEATURES, SET MULTIPLE MODE, SMART, WRITE UNCORRECTABLE EXT and DATA SET MANAGEMENT: mostly those of a subcommand that there is. */
 static void asks_more(uint8_t *fis, uint8_t far, uint8_t many)
 {
-    static const uint8_t features[] = { 0x03, 0x02, 0x82, 0x05, 0x85, 0x55, 0xAA, 0x66, 0xCC, 0x03 }, smart[] = { 0xD0, 0xD1, 0xD2, 0xD4, 0xD5, 0xD8, 0xD8, 0xD9, 0xDA, 0xD4, 0xD5, 0xD3 },
+    static const uint8_t features[] = { 0x03, 0x02, 0x82, 0x05, 0x85, 0x55, 0xAA, 0x66, 0xCC, 0x03 },
+                         smart[] = { 0xD0, 0xD1, 0xD2, 0xD4, 0xD5, 0xD8, 0xD8, 0xD9, 0xDA, 0xD4, 0xD5, 0xD3, 0xD5, 0xD6, 0xD6, 0xD5 },
                          tests[] = { 0, 1, 2, 0x81, 0x82, 0x7F, 6, 3 }, spoiling[] = { 0x55, 0x5A, 0xA5, 0xAA, 0x55, 0x54, 0x45 };
     if (fis[2] == 0xEF)
         fis[3] = features[many % sizeof features], fis[12] = far;
@@ -297,7 +305,20 @@ static void asks_more(uint8_t *fis, uint8_t far, uint8_t many)
         fis[4] = tests[far % sizeof tests];
         fis[5] = 0x4F, fis[6] = far % 32 == 9 ? 0xC3 : 0xC2;
         fis[12] = fis[3] == 0xD2 && many & 1 ? 0xF1 : far % 16 != 3;
+        if (many % sizeof smart > 11) /* READ LOG and WRITE LOG of the host's logs */
+            fis[4] = of_host(far), fis[12] = many % 64 == 13 ? 16 + far % 2 : far % 16 == 3 ? 0 : 1 + many / 16 % 3;
     }
+    if (fis[2] == 0x3F || fis[2] == 0x57 || (fis[2] == 0x2F && many % 16 > 9)) {
+        fis[4] = of_host(far), fis[5] = many % 32 == 11 ? 14 + far / 8 % 3 : far / 8 % 3, fis[9] = many % 64 == 12;
+        fis[12] = many % 64 == 13 ? 16 - far / 8 % 3 : many % 64 == 15 ? 0 : 1 + many / 16 % 3;
+    }
+}
+
+/* How many bytes a command with these fields moves, for the length of its list: not those that count sectors. */
+static uint32_t bytes_of_pages(const uint8_t *fis)
+{
+    const bool is_counted = fis[2] == 0x2F || fis[2] == 0x47 || fis[2] == 0x06 || fis[2] == 0x3F || fis[2] == 0x57 || (fis[2] == 0xB0 && fis[4] & 0x80 && (fis[3] == 0xD5 || fis[3] == 0xD6));
+    return is_counted ? 512u * fis[12] : fis[2] == 0xEC || fis[2] == 0xB0 || fis[2] >> 4 == 0xE ? 512 : 0;
 }
 
 /* Lays out a command in a slot, and issues it. */
@@ -305,7 +326,7 @@ static void command(void)
 {
     static const uint8_t codes[] = { 0x60, 0x61, 0x60, 0x61, 0x60, 0x61, 0x60, 0x61, 0xC8, 0xCA, 0x25, 0x35, 0x20, 0x20, 0x30, 0x24, 0x34, 0x34, 0xEC, 0x2F, 0x2F, 0x47, 0xEA, 0xE7, 0xEF, 0xA1,
         0x40, 0x42, 0x27, 0x90, 0xE5, 0xE5, 0xE5, 0xE0, 0xE2, 0xE1, 0xE3, 0xE6, 0x00, 0xB0, 0xB0, 0xB0, 0xB0, 0xB0, 0xEF, 0xEF, 0xEF, 0xE4, 0xE8, 0xE8, 0xE9, 0xEB, 0x06, 0x06, 0x3D,
-        0xC4, 0xC5, 0x29, 0x39, 0xCE, 0xC6, 0xC6, 0xC6, 0xC4, 0x45 };
+        0xC4, 0xC5, 0x29, 0x39, 0xCE, 0xC6, 0xC6, 0xC6, 0xC4, 0x45, 0x3F, 0x3F, 0x57, 0x57, 0x2F, 0xB0, 0xB0 };
     const uint32_t slot = byte() % 8 == 7 ? 31 : byte() % 6, code = codes[byte() % sizeof codes], bit = 1u << slot;
     const uint8_t far = byte(), lba = far % 32 ? far % 12 : far / 32 + 10, many = byte(), count = many % 128 ? 1 + many % 5 : 0, odd = byte();
     const bool queued = code == 0x60 || code == 0x61, log = code == 0x2F || code == 0x47, is_control = odd % 32 == 30 || (soft == HELD && odd % 4 == 2);
@@ -328,7 +349,7 @@ static void command(void)
         fis[byte() % 20] = byte();
     if (header) {
         memcpy(table, fis, sizeof fis);
-        const uint32_t entries = lay_list(table + 0x80, code == 0xEC || code == 0xB0 || code >> 4 == 0xE ? 512 : log || code == 0x06 ? 512u * fis[12] : count ? count * 512u : 0x2000);
+        const uint32_t paged = bytes_of_pages(fis), entries = lay_list(table + 0x80, paged ? paged : count ? count * 512u : 0x2000);
         put(header, 5 | (odd & 0x40) | (is_control && many % 4 ? 0x500 : many % 64 == 33 ? 0x400 : 0) | entries << 16, 4);
         put(header + 4, 0, 4);
         put(header + 8, odd % 64 == 12 ? at + 0x20000 : at + (odd & 0x7F), 8);
@@ -708,6 +729,7 @@ int main(int count, char **arguments)
         counted.found, counted.pulled, counted.tries, counted.broken);
     printf("%lu times another disk was plugged in\n", counted.other);
     printf("and the disk took data that are no sectors %lu times; %lu answers and blocks ended entries with I\n", counted.stored, counted.told);
+    printf("logs of the host's were written %lu times, and %lu pages were read that it had written\n", counted.logged, counted.reread);
     printf("%lu sectors were marked uncorrectable, %lu reads failed at one, and %lu were written again\n", counted.spoiled, counted.unread, counted.mended);
     printf("after a loss of power a sector might have had some bytes %lu times, and %lu times not\n", counted.left, counted.lost_bytes);
     printf("%lu commands came under queued ones and aborted them, and %lu queued ones failed with ICRC\n", counted.mixed, counted.icrc);

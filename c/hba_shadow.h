@@ -52,8 +52,11 @@ static uint16_t icrc_ends, signatures;
 static enum power { ACTIVE, IDLE, STANDBY, SLEEP } power; /* the device's power mode (ACS-3, "Power Management feature set") */
 static bool pulled; /* the disk is pulled out */
 /* What the disk keeps (ACS-3, SET FEATURES, SET MULTIPLE MODE, SMART, WRITE BUFFER): the level of APM is 0 if it is disabled, and so are the sectors of a block of READ and
-   WRITE MULTIPLE; the logs of self-tests are without their checksums. */
-static struct { bool has_cache, cache, ahead, reverts, smart; uint8_t level, mode, per_block, tests[AHCI_PAGE_BYTES], more_tests[AHCI_PAGE_BYTES], buffer[AHCI_PAGE_BYTES]; } disk;
+   WRITE MULTIPLE; the logs of self-tests are without their checksums. Logs 80h to 9Fh are the host's, of 16 pages each (ACS-3, "Host Specific logs"): no reset changes them. */
+static struct {
+    bool has_cache, cache, ahead, reverts, smart;
+    uint8_t level, mode, per_block, tests[AHCI_PAGE_BYTES], more_tests[AHCI_PAGE_BYTES], buffer[AHCI_PAGE_BYTES], logs[32][16][AHCI_PAGE_BYTES];
+} disk;
 static uint8_t page[AHCI_PAGE_BYTES]; /* the log of that */
 /* Sectors that can't be read (ACS-3, "WRITE UNCORRECTABLE EXT"): neither a reset nor a power cycle makes them good, and only a write does. */
 static bool unreadable[SECTORS];
@@ -66,7 +69,7 @@ static const struct fis no_fis;
    told once its data have moved. */
 enum kind { OTHER, QUEUE, READ, WRITE, PAGE, STORE, CONTROL };
 static struct command {
-    bool there, sent, accepted, queued, writes, pio, multiple, error_log, long_log, is_smart, resets, has_48_bits;
+    bool there, sent, accepted, queued, writes, pio, multiple, error_log, long_log, host_log, is_smart, resets, has_48_bits;
     enum kind kind;
     uint8_t fis[20];
     uint64_t lba, moved, room, used, into;
@@ -82,7 +85,7 @@ static struct { bool on, clears; uint32_t slot, phase, entries, piece; uint64_t 
 static struct { bool on, counts, spills, tells, signs, unasked; struct fis before, after; uint32_t slot, signature; uint64_t left; } answer;
 static struct { bool on, begun; uint32_t slot, sectors, past, per_block; struct fis end; } transfer;
 
-static struct { unsigned long done, halts, dropped, trims, blocks, long_blocks, spilled, stuck, partial, deep, slept, lost, found, pulled, other, tries, broken, ended, foreign, unasked, stored, left, lost_bytes, mixed, icrc, spoiled, unread, mended, told; } counted;
+static struct { unsigned long done, halts, dropped, trims, blocks, long_blocks, spilled, stuck, partial, deep, slept, lost, found, pulled, other, tries, broken, ended, foreign, unasked, stored, left, lost_bytes, mixed, icrc, spoiled, unread, mended, told, logged, reread; } counted;
 
 static uint8_t *memory(uint64_t at, uint64_t count)
 {

@@ -144,6 +144,8 @@ static void moves_on(uint32_t slot)
     const bool out = slots[slot].writes, is_first = transfer.past == 0, is_last = sectors == rest && !transfer.end.size;
     if (!rest) {
         transfer.on = false;
+        if (slots[slot].kind == STORE && slots[slot].host_log)
+            writes_pages(&slots[slot]);
         answers(slot, no_fis, 0, 0, true, transfer.end);
         return;
     }
@@ -286,13 +288,15 @@ static void turns_by(const struct command *it)
     }
 }
 
-/* The disk takes data that are no sectors: its buffer, or ranges that are trimmed, which changes nothing. */
+/* The disk takes data that are no sectors: its buffer, ranges that are trimmed, which changes nothing, or pages of a log of the host's, by PIO once the last block has come. */
 static void stores(uint32_t slot)
 {
     const struct command *it = &slots[slot];
     const bool trims = it->fis[2] == 0x06, is_bad = trims && leaves_disk(it);
     const struct fis end = is_bad ? d2h(0x40, 0x41, 0x14, 0) : good();
-    if (!trims)
+    if (it->host_log && !it->pio)
+        writes_pages(it);
+    if (!trims && !it->host_log)
         memcpy(disk.buffer, it->bytes, AHCI_PAGE_BYTES);
     counted.stored++;
     if (it->pio)

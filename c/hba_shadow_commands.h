@@ -60,9 +60,12 @@ static void write(uint32_t offset, uint32_t value) { writes(offset, 4, value); }
 /* The first page that is read of a log, and whether the log has all pages that are read. */
 static uint64_t first_page(uint64_t lba) { return (lba >> 8 & 0xFF) | (lba >> 32 & 0xFF) << 8; }
 
+/* Logs 80h to 9Fh are the host's. */
+static bool is_host_log(uint64_t log) { return log >= 0x80 && log <= 0x9F; }
+
 static uint32_t pages_of(uint64_t log)
 {
-    return log == 0 || log == 3 || log == 7 || log == 0x10 || log == 0x11 ? 1 : log == 4 ? 2 : log == 0x30 ? 7 : 0;
+    return is_host_log(log) ? 16 : log == 0 || log == 3 || log == 7 || log == 0x10 || log == 0x11 ? 1 : log == 4 ? 2 : log == 0x30 ? 7 : 0;
 }
 
 static bool reads_log(uint32_t code, uint64_t lba, uint32_t count)
@@ -70,11 +73,46 @@ static bool reads_log(uint32_t code, uint64_t lba, uint32_t count)
     return (code == 0x2F || code == 0x47) && count && first_page(lba) + count <= pages_of(lba & 0xFF);
 }
 
+/* WRITE LOG EXT and WRITE LOG DMA EXT: the host may write to its own logs alone. */
+static bool writes_log(uint32_t code, uint64_t lba, uint32_t count)
+{
+    return (code == 0x3F || code == 0x57) && is_host_log(lba & 0xFF) && count && first_page(lba) + count <= 16;
+}
+
+static bool has_smart_key(const uint8_t *fis) { return fis[2] == 0xB0 && fis[5] == 0x4F && fis[6] == 0xC2; }
+
+/* SMART READ LOG and SMART WRITE LOG of a log of the host's: so many pages of it, the first ones. */
+static bool names_host_log(const uint8_t *fis) { return has_smart_key(fis) && is_host_log(fis[4]) && fis[12] && fis[12] <= 16; }
+
 /* A page of SMART: READ DATA, READ THRESHOLDS, and READ LOG of the directory, of the errors and of the self-tests, a page each (ACS-3, SMART). */
 static bool reads_smart(const uint8_t *fis)
 {
-    const bool is_signed = fis[2] == 0xB0 && fis[5] == 0x4F && fis[6] == 0xC2, is_log = fis[4] == 0 || fis[4] == 1 || fis[4] == 6;
-    return is_signed && (fis[3] == 0xD0 || fis[3] == 0xD1 || (fis[3] == 0xD5 && fis[12] == 1 && is_log));
+    const bool is_log = fis[4] == 0 || fis[4] == 1 || fis[4] == 6;
+    return has_smart_key(fis) && (fis[3] == 0xD0 || fis[3] == 0xD1 || (fis[3] == 0xD5 && ((fis[12] == 1 && is_log) || names_host_log(fis))));
+}
+
+/* A page of a log of the host's that a command reads or writes. */
+static uint8_t *host_page(const struct command *it, uint32_t index)
+{
+    const uint64_t lba = little(it->fis + 4, 3) | little(it->fis + 8, 3) << 24;
+    return disk.logs[it->fis[4] - 0x80][(it->fis[2] == 0xB0 ? 0 : first_page(lba)) + index];
+}
+
+/* All pages are written at once, once all data have come. */
+static void writes_pages(const struct command *it)
+{
+    counted.logged++;
+    for (uint32_t i = 0; i < it->pages; i++)
+        memcpy(host_page(it, i), it->bytes + i * AHCI_PAGE_BYTES, AHCI_PAGE_BYTES);
+}
+
+static void reads_pages(struct command *it)
+{
+    static const uint8_t zeros[AHCI_PAGE_BYTES];
+    for (uint32_t i = 0; i < it->pages; i++) {
+        memcpy(it->bytes + i * AHCI_PAGE_BYTES, host_page(it, i), AHCI_PAGE_BYTES);
+        counted.reread += memcmp(host_page(it, i), zeros, AHCI_PAGE_BYTES) != 0;
+    }
 }
 
 static bool is_buffer(uint32_t code) { return code == 0xE4 || code == 0xE9; }
@@ -189,6 +227,8 @@ static void lays_directory(uint8_t *to, bool is_smart)
     to[0] = 1;
     for (size_t i = 0; i < (is_smart ? sizeof own : sizeof all); i++)
         to[2 * (is_smart ? own[i] : all[i])] = (uint8_t)(is_smart ? 1 : pages_of(all[i]));
+    for (uint32_t log = 0x80; log < 0xA0; log++)
+        to[2 * log] = 16;
 }
 
 /* A page of SMART, or of a log of one page that has a checksum. */
@@ -218,6 +258,8 @@ static void lays_pages(struct command *it)
     memset(it->bytes, 0, it->pages * AHCI_PAGE_BYTES);
     if (it->fis[2] == 0xEC) {
         lays_identify(it->bytes);
+    } else if (it->host_log) {
+        reads_pages(it);
     } else if (it->long_log) {
         for (uint32_t i = 0; i < it->pages; i++)
             ((lba & 0xFF) == 4 ? lays_statistics : lays_identify_log)(it->bytes + i * AHCI_PAGE_BYTES, first_page(lba) + i);
@@ -248,7 +290,7 @@ static void asks(struct command *it, const uint8_t *fis)
     const bool is_short = code == 0x20 || code == 0x30 || code == 0xC4 || code == 0xC5 || code == 0xC8 || code == 0xCA || code == 0x40;
     const bool is_multiple = code == 0x29 || code == 0x39 || code == 0xC4 || code == 0xC5 || code == 0xCE;
     memcpy(it->fis, fis, sizeof it->fis);
-    it->sent = it->accepted = it->queued = it->writes = it->pio = it->multiple = it->error_log = it->long_log = it->is_smart = false;
+    it->sent = it->accepted = it->queued = it->writes = it->pio = it->multiple = it->error_log = it->long_log = it->host_log = it->is_smart = false;
     it->pieces = it->piece = it->sectors = 0;
     it->room = it->used = it->into = 0;
     it->kind = OTHER;
@@ -275,17 +317,25 @@ static void asks(struct command *it, const uint8_t *fis)
         it->kind = PAGE;
         it->pio = code != 0x47 && code != 0xE9;
         it->error_log = is_log && (lba & 0xFF) == 0x10;
-        it->long_log = is_log && pages_of(lba & 0xFF) > 1;
+        it->host_log = is_host_log(fis[4]) && (is_log || (code == 0xB0 && fis[3] == 0xD5));
+        it->long_log = it->host_log || (is_log && pages_of(lba & 0xFF) > 1);
         it->is_smart = code == 0xB0 || (is_log && ((lba & 0xFF) == 3 || (lba & 0xFF) == 7));
-        it->pages = is_log ? count : 1;
+        it->pages = is_log ? count : it->host_log ? fis[12] : 1;
     } else if (code == 0xE8 || code == 0xEB || (code == 0x06 && features & 1 && count && count <= 8)) {
         it->kind = STORE;
         it->writes = true;
         it->pio = code == 0xE8;
         it->pages = code == 0x06 ? count : 1;
+    } else if (writes_log(code, lba, count) || (fis[3] == 0xD6 && names_host_log(fis))) {
+        it->kind = STORE;
+        it->writes = it->host_log = true;
+        it->pio = code != 0x57;
+        it->is_smart = code == 0xB0;
+        it->pages = code == 0xB0 ? fis[12] : count;
     }
-    it->has_48_bits = it->kind != CONTROL && (it->queued || (it->kind == PAGE && (code == 0x2F || code == 0x47)) || (it->kind == STORE && code == 0x06) || code == 0x24
-        || code == 0x25 || code == 0x27 || code == 0x29 || code == 0x39 || code == 0xCE || code == 0x34 || code == 0x35 || code == 0x3D || code == 0x42 || code == 0xEA || spoils(fis));
+    it->has_48_bits = it->kind != CONTROL && (it->queued || (it->kind == PAGE && (code == 0x2F || code == 0x47)) || (it->kind == STORE && (code == 0x06 || code == 0x3F || code == 0x57))
+        || code == 0x24 || code == 0x25 || code == 0x27 || code == 0x29 || code == 0x39 || code == 0xCE || code == 0x34 || code == 0x35 || code == 0x3D || code == 0x42 || code == 0xEA
+        || spoils(fis));
     it->moved = it->kind == PAGE || it->kind == STORE ? it->pages * AHCI_PAGE_BYTES : code == 0x40 || code == 0x42 || code == 0x45 ? 0 : (uint64_t)it->sectors * AHCI_SECTOR_BYTES;
 }
 

@@ -31,6 +31,7 @@ PARTITION = 2048  # the first sector of a GRUB image's partition
 MORE_MODULES = {"losses": ["xfs"], "tools": ["sg", "xfs"]}
 MORE_PROGRAMS = {"losses": {"e2fsck": "e2fsprogs", "xfs_repair": "xfsprogs"},
                  "tools": {"smartctl": "smartmontools", "hdparm": "hdparm", "sg_sat_identify": "sg3-utils", "sg_sat_read_gplog": "sg3-utils", "sg_sat_phy_event": "sg3-utils",
+                           "sg_raw": "sg3-utils",
                            "fstrim": "util-linux", "blkdiscard": "util-linux", "lsblk": "util-linux", "mkfs.xfs": "xfsprogs"}}
 MORE_COMPILED = {"losses": ["synced"]}
 

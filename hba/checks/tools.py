@@ -76,7 +76,7 @@ NAMED = [rf"Device Model:     {MODEL}", rf"Serial Number:    {SERIAL}", rf"Firmw
 PASSED = r"SMART overall-health self-assessment test result: PASSED"
 HEALTHY = [*NAMED, PASSED, r"APM feature is:   Disabled", r"Rd look-ahead is: Enabled", r"Write cache is:   Enabled", r"SMART support is: Enabled", r"General Purpose Log Directory Version 1", r"No Errors Logged",
            r"0x00       GPL,SL  R/O      1  Log Directory", r"0x04       GPL     R/O      2  Device Statistics log", r"0x06           SL  R/O      1  SMART self-test log", r"0x07       GPL     R/O      1  Extended self-test log",
-           r"0x11       GPL     R/O      1  SATA Phy Event Counters log", r"0x30       GPL     R/O      7  IDENTIFY DEVICE data log", r"0x01  0x010  4               0  ---  Power-on Hours",
+           r"0x11       GPL     R/O      1  SATA Phy Event Counters log", r"0x30       GPL     R/O      7  IDENTIFY DEVICE data log", r"0x80-0x9f  GPL,SL  R/W     16  Host vendor specific log", r"0x01  0x010  4               0  ---  Power-on Hours",
            r"0x0001  2            0  Command failed due to ICRC error", r"SMART Extended Self-test Log Version: 1 \(1 sectors\)"]
 SHORT, LONG = (rf"# +{{}}  {it} offline +Completed without error +00% +0 +-" for it in ("Short", "Extended"))
 
@@ -106,6 +106,7 @@ SAYS: Sequence[Tuple[str, List[str]]] = (
     ("sector_next", [r"reading sector 1001: succeeded"]), ("read_bad", [NO_READ]), ("repaired", [r"re-writing sector 1000: succeeded"]), ("read_again", [r"1\+0 records in"]),
     ("flagged", [r"Corrupting sector 1000 \(WRITE_UNC_EXT as flagged\): succeeded"]), ("sector_flagged", [UNREAD]), ("beyond", [NOT_FOUND]),
     ("zeroed", [r"re-writing sector 1000: succeeded"]), ("phy", [r"Command failed and ICRC error bit set in Error register: 0", r"Signature device-to-host register FISes due to COMRESET: \d+"]),
+    *((name, [r"SCSI Status: Good"]) for name in ("host_pio", "host_dma", "host_smart")),
     ("discard", [rf"0 512 0 1 {BYTES} {FIRMWARE[4:]} {re.escape(MODEL.replace(' ', chr(92) + 'x20'))}"]),
     ("blkdiscard", [rf"/dev/sda: Discarded {BYTES} bytes from the offset 0"]), ("blkdiscard_part", [r"/dev/sda: Discarded 4194304 bytes from the offset 1048576"]),
     ("end", [*HEALTHY, LONG.format(1), SHORT.format(2)]))
@@ -171,7 +172,10 @@ def pages_right(runs: Dict[str, Run]) -> None:
     expect(counted == [SECTORS, SECTORS] and words[217] == RPM, f"sectors {counted}, rotation rate {words[217]}")
     pages = {name: bytes_of(run) for name, run in runs.items() if name.startswith("log_")}
     sizes = [int.from_bytes(pages["log_0x00"][2 * it:2 * it + 2], "little") for it in range(256)]
-    expect({it: size for it, size in enumerate(sizes) if size} == {0x00: 1, 0x03: 1, 0x04: 2, 0x07: 1, 0x10: 1, 0x11: 1, 0x30: 7}, f"log 00h is {sizes}")
+    expect({it: size for it, size in enumerate(sizes) if size} == {0x00: 1, 0x03: 1, 0x04: 2, 0x07: 1, 0x10: 1, 0x11: 1, 0x30: 7, **dict.fromkeys(range(0x80, 0xA0), 16)}, f"log 00h is {sizes}")
+    written = {"log_0x80_0": bytes(512), "log_0x80_1": DATA[:512], "log_0x80_2": DATA[512:1024], "log_0x80_3": bytes(512), "log_0x81": DATA[:512], "log_0x9f_15": DATA[:512]}
+    differing = [name for name, content in written.items() if pages[name] != content]
+    expect(not differing, f"the host's logs {differing} are not as it wrote them")
     unsound = [name for name in ("log_0x03", "log_0x07", "log_0x10", "log_0x11") if sum(pages[name]) % 256]
     expect(not unsound, f"the sums of {unsound} are wrong")
     expect(pages["log_0x10"][0] & 0x80 == 0x80, "log 10h names a failed command, and none has failed")

@@ -95,6 +95,17 @@ run log_0x04_1 sg_sat_read_gplog -H -L 0x04 -p 1 /dev/sda
 for it in 1 2 3 4 5 6; do
     run "log_0x30_$it" sg_sat_read_gplog -d -H -L 0x30 -p $it /dev/sda
 done
+# The host's logs: ATA PASS-THROUGH(16) of WRITE LOG EXT of two pages, of WRITE LOG DMA EXT, and of SMART WRITE LOG
+dd if=/data of=/tmp/pages bs=512 count=2 2> /dev/null
+run log_0x80_0 sg_sat_read_gplog -H -L 0x80 /dev/sda
+run host_pio sg_raw -s 1024 -i /tmp/pages /dev/sda 85 0b 06 00 00 00 02 00 80 00 01 00 00 00 3f 00
+run host_dma sg_raw -s 512 -i /tmp/pages /dev/sda 85 0d 06 00 00 00 01 00 9f 00 0f 00 00 00 57 00
+run host_smart sg_raw -s 512 -i /tmp/pages /dev/sda 85 0a 06 00 d6 00 01 00 81 00 4f 00 c2 00 b0 00
+for it in 1 2 3; do
+    run "log_0x80_$it" sg_sat_read_gplog -H -L 0x80 -p $it /dev/sda
+done
+run log_0x81 sg_sat_read_gplog -H -L 0x81 /dev/sda
+run log_0x9f_15 sg_sat_read_gplog -d -H -L 0x9f -p 15 /dev/sda
 run phy sg_sat_phy_event /dev/sda
 run discard lsblk -D -b -n -r -o DISC-ALN,DISC-GRAN,DISC-ZERO,ROTA,SIZE,REV,MODEL /dev/sda
 mkfs.ext4 -q -E nodiscard /dev/sda

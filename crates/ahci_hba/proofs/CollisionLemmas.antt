@@ -9,8 +9,8 @@ use Rattle.hba_command.specs.declared.action.Action.TheVariants.{Queue}
 use Rattle.hba_memory.specs.Posting.{PostingView, is_none, remaining}
 use Rattle.ncq_journal.specs.Halted.{halted}
 use Rattle.ahci_port.specs.Faults.{op_refusal}
-use Rattle.ahci_hba.specs.Delivering.{fis_ending, received_put}
-use Rattle.ahci_hba.specs.Executing.{aborted, is_aborted, reads_error_log}
+use Rattle.ahci_hba.specs.Delivering.{aborted, fis_ending, received_put}
+use Rattle.ahci_hba.specs.Executing.{is_aborted, reads_error_log}
 use Rattle.ahci_hba.specs.Failing.{concluded, vacated}
 use Rattle.ahci_hba.specs.HbaView.{HbaView, Idle, Posting}
 use Rattle.ahci_hba.specs.Keeping.{device_ended, keeping}

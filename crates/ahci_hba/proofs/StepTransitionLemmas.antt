@@ -4,8 +4,10 @@ use Rattle.sata_fis.specs.Encoding.{d2h_bytes}
 use Rattle.sata_fis.specs.Fields.{D2hFields, QueuedFields}
 use Rattle.hba_command.specs.Action.{action_of}
 use Rattle.hba_command.specs.Addressing.{addressing_of}
-use Rattle.hba_command.specs.Device.{after_page, after_store, allows_page}
+use Rattle.hba_command.specs.Device.{after_page, after_store, allows_log, allows_page}
 use Rattle.hba_command.specs.DiskPages.{ready_page}
+use Rattle.hba_command.specs.HostLogs.{host_pages, rewritten}
+use Rattle.hba_command.specs.HostPages.{HostPagesFields}
 use Rattle.hba_command.specs.NotQueued.{unfailed_page}
 use Rattle.hba_command.specs.Pages.{controller_page}
 use Rattle.hba_command.specs.Power.{needs_medium}
@@ -15,14 +17,16 @@ use Rattle.hba_command.specs.declared.action.Action.{Action}
 use Rattle.hba_command.specs.declared.action.Action.TheVariants.{Queue, Sectors, Page, Store, Flush, Reply, Control, Abort}
 use Rattle.hba_command.specs.declared.disk_page.DiskPage.{DiskPage}
 use Rattle.hba_command.specs.declared.entry.PrdEntry.{PrdEntry}
+use Rattle.hba_command.specs.declared.host_page.HostPage.{HostPage}
 use Rattle.hba_command.specs.declared.log.Log.{Log}
-use Rattle.hba_command.specs.declared.log.Log.TheVariants.{Pages, QueuedError}
+use Rattle.hba_command.specs.declared.log.Log.TheVariants.{Host, Pages, QueuedError}
 use Rattle.hba_command.specs.declared.page.Page.TheVariants as page
 use Rattle.hba_command.specs.declared.protocol.Protocol.{Protocol}
 use Rattle.hba_command.specs.declared.protocol.Protocol.TheVariants.{Pio as ByPio, Multiple, Dma as ByDma}
 use Rattle.hba_command.specs.declared.reply.Reply.{Reply as Replies}
 use Rattle.hba_command.specs.declared.reply.Reply.TheVariants as reply
 use Rattle.hba_command.specs.declared.store.Store.{Store as Stores}
+use Rattle.hba_command.specs.declared.store.Store.TheVariants as store
 use Rattle.hba_command.specs.Uncorrectable.{marked_with}
 use Rattle.hba_memory.specs.Posting.{PostingView}
 use Rattle.hba_memory.specs.Processing.{has_processed}
@@ -35,14 +39,15 @@ use Rattle.ncq_journal.specs.History.{History}
 use Rattle.ahci_port.specs.PortView.{PortView, sectors_in}
 use Rattle.ahci_port.specs.Steps.{answer_to}
 use Rattle.ahci_port.specs.declared.step.Stepped.{Stepped}
-use Rattle.ahci_hba.specs.Delivering.{answer_with, answered, block_in, block_out, block_posting, bytes_for, closing, dma_answer, done, finishing}
+use Rattle.ahci_hba.specs.Delivering.{aborted, answer_with, answered, block_in, block_out, block_posting, bytes_for, closing, dma_answer, done, finishing}
 use Rattle.ahci_hba.specs.Delivering.{fis_ending, going_on, only_before, page_answer, page_posting, queued_answer, queued_posting, read_answer, read_posting, received_put, setup_put}
 use Rattle.ahci_hba.specs.Dropping.{is_spent, port_after}
-use Rattle.ahci_hba.specs.Executing.{Executes, Performs, aborted, can_mark, disk_page_given, is_aborted, log_given, long_log_in, marked_by, paged, pages_given, replied, reply_fis, stopped, stops_at, stops_with}
+use Rattle.ahci_hba.specs.Executing.{Executes, Performs, can_mark, disk_page_given, host_log_given, is_aborted, log_given, long_log_in, marked_by, paged, pages_given, replied, reply_fis, stopped, stops_at, stops_with}
 use Rattle.ahci_hba.specs.Failing.{Fails, concluded, ended_at, ended_with, ending_fis, failed_posting, moved_before, own_in}
 use Rattle.ahci_hba.specs.Failing.{moved_sectors, queue_failed, read_failed, sectors_before, sectors_ended, sectors_failed, sectors_of, vacated}
 use Rattle.ahci_hba.specs.HbaView.{CommandView, Fetched, Sent, HbaView, WorkView, Idle, Fetching, Served, Pio, Block, Posting}
 use Rattle.ahci_hba.specs.Keeping.{changed_by, device_ended, keeping}
+use Rattle.ahci_hba.specs.Logging.{logging, logs_behind}
 use Rattle.ahci_hba.specs.Marking.{marked_for, marking}
 use Rattle.ahci_hba.specs.Moving.{answering, blocking, ending_of, ending_of_data}
 use Rattle.ahci_hba.specs.Powering.{awake, turned}
@@ -50,7 +55,7 @@ use Rattle.ahci_hba.specs.Queueing.{Sends, accepting, after_acceptance, command_
 use Rattle.ahci_hba.specs.Recovering.{Recovers, error_log_in, error_page}
 use Rattle.ahci_hba.specs.Resetting.{control_in, controlled, released, sent_by, signature, signing, signing_for}
 use Rattle.ahci_hba.specs.Stepping.{IsTaken, ServesTo, marked_at, stop_for}
-use Rattle.ahci_hba.specs.Storing.{content_in, store_fis, stored, taken_by}
+use Rattle.ahci_hba.specs.Storing.{content_in, kept_at_once, log_stored, log_taken_by, store_fis, stored, taken_by}
 use Rattle.ahci_hba.specs.Transfer.{TransferView, fits, has_interrupt, is_last, moved_to, next_block, next_list, next_processes, next_sectors}
 use Rattle.ahci_hba.specs.Transitions.{Takes, SelectCmd, SrstCleared, SrstSet}
 use Rattle.ahci_hba.specs.declared.ending.Ending.{Ending}
@@ -127,7 +132,7 @@ answers_with h slot list bytes Abort = closes h slot 0 false done
 
 finishes : (h : HbaView) (t : TransferView) (fis : Option D2hFields) → Takes h.registers (finishing h t fis).registers
 finishes h t None = none h.registers
-finishes h t (Some fis) = closes h t.slot t.moved false fis
+finishes h t (Some fis) = closes (logging h (logs_behind t.logs h.logs)) t.slot t.moved false fis
 
 moves_in : (h : HbaView) (t : TransferView) → Takes h.registers (block_in h t).registers
 moves_in h t = by (is_last t)
@@ -201,9 +206,17 @@ gives_pages h slot ByPio list bytes n = none h.registers
 gives_pages h slot Multiple list bytes n = none h.registers
 gives_pages h slot ByDma list bytes n = reads (vacated h slot) slot list bytes (512 * n) done
 
+gives_host_log : (h : HbaView) (slot : ℕ) (p : Protocol) (list : List PrdEntry) (pages : HostPagesFields) → Takes h.registers (host_log_given h slot p list pages).registers
+gives_host_log h slot p list pages = by (allows_log h.device pages)
+  where
+    by : (b : Bool) → Takes h.registers (if b then pages_given h slot p list (host_pages h.logs pages) pages.count else concluded h slot aborted).registers
+    by true = gives_pages h slot p list (host_pages h.logs pages) pages.count
+    by false = concludes h slot aborted
+
 gives_log : (h : HbaView) (slot : ℕ) (p : Protocol) (list : List PrdEntry) (log : Log) → Takes h.registers (log_given h slot p list log).registers
 gives_log h slot p list QueuedError = gives_page h slot p list (unfailed_page h.device.collision)
 gives_log h slot p list (Pages log pages) = gives_pages h slot p list (long_log_in h log pages) pages.count
+gives_log h slot p list (Host pages) = gives_host_log h slot p list pages
 
 gives_disk_page : (h : HbaView) (slot : ℕ) (p : Protocol) (list : List PrdEntry) (page : DiskPage) → Takes h.registers (disk_page_given h slot p list page).registers
 gives_disk_page h slot p list page = by (allows_page h.device page)
@@ -217,8 +230,25 @@ takes_blocks h slot ByPio list n fis = none h.registers
 takes_blocks h slot Multiple list n fis = none h.registers
 takes_blocks h slot ByDma list n fis = closes h slot (512 * n) (has_processed list (512 * n)) fis
 
+takes_log : (h : HbaView) (slot : ℕ) (p : Protocol) (list : List PrdEntry) (n : ℕ) (logs : List HostPage) → Takes h.registers (log_taken_by h slot p list n logs).registers
+takes_log h slot ByPio list n logs = none h.registers
+takes_log h slot Multiple list n logs = none h.registers
+takes_log h slot ByDma list n logs = closes (logging h logs) slot (512 * n) (has_processed list (512 * n)) done
+
+stores_log : (h : HbaView) (slot : ℕ) (pages : HostPagesFields) (p : Protocol) (list : List PrdEntry) (bytes : List ℕ) → Takes h.registers (log_stored h slot pages p list bytes).registers
+stores_log h slot pages p list bytes = by (allows_log h.device pages)
+  where
+    by : (b : Bool) → Takes h.registers (if b then log_taken_by (vacated h slot) slot p list pages.count (rewritten pages bytes h.logs) else concluded h slot aborted).registers
+    by true = takes_log (vacated h slot) slot p list pages.count (rewritten pages bytes h.logs)
+    by false = concludes h slot aborted
+
+stores_at_once : (h : HbaView) (slot : ℕ) (s : Stores) (p : Protocol) (list : List PrdEntry) (bytes : List ℕ) → Takes h.registers (kept_at_once h slot s p list bytes).registers
+stores_at_once h slot s p list bytes = takes_blocks (keeping (vacated h slot) (after_store s bytes h.device)) slot p list (blocks_of s) (store_fis h.port s bytes)
+
 stores : (h : HbaView) (slot : ℕ) (s : Stores) (p : Protocol) (list : List PrdEntry) (bytes : List ℕ) → Takes h.registers (stored h slot s p list bytes).registers
-stores h slot s p list bytes = takes_blocks (keeping (vacated h slot) (after_store s bytes h.device)) slot p list (blocks_of s) (store_fis h.port s bytes)
+stores h slot (store.Log pages) p list bytes = stores_log h slot pages p list bytes
+stores h slot store.Buffer p list bytes = stores_at_once h slot store.Buffer p list bytes
+stores h slot (store.Trim blocks) p list bytes = stores_at_once h slot (store.Trim blocks) p list bytes
 
 -- a mark moves no register
 marks_none : (r : Replies) (old new : HbaView) → Takes old.registers new.registers → Takes old.registers (marked_by r new).registers

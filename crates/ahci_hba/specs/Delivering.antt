@@ -22,6 +22,7 @@ use Rattle.ahci_port.specs.PortView.{PortView}
 use Rattle.ahci_table.specs.Text.{text}
 use Rattle.ahci_table.specs.Window.{WindowState}
 use Rattle.ahci_hba.specs.HbaView.{HbaView, WorkView, Idle, Served, Pio}
+use Rattle.ahci_hba.specs.Logging.{logging, logs_behind}
 use Rattle.ahci_hba.specs.Moving.{answering, blocking, ending_of_data}
 use Rattle.ahci_hba.specs.Queueing.{fis_put}
 use Rattle.ahci_hba.specs.Transfer.{TransferView, first_block, fits, has_interrupt, is_last, moved_so_far, moved_to, next_block, next_list, next_processes, next_sectors, sends_block}
@@ -46,6 +47,10 @@ d2h_fis status error lba count = record { i = true; status = status; error = err
 -- a command is done
 abbrev pub done : D2hFields
 done = d2h_fis 0x40 0 0 0
+
+-- or is aborted
+abbrev pub aborted : D2hFields
+aborted = d2h_fis 0x41 0x04 0 0
 
 -- a D2H Register FIS that ends a slot's command
 abbrev pub fis_ending : ℕ → D2hFields → LastFis
@@ -156,10 +161,10 @@ block_in h t =
     answering h (block_posting h.registers t 0x40) (ending_of_data (fits (512 * next_sectors t) (next_list t)) (next_processes t) (last_fis.Pio t.slot))
     else blocking h (block_posting h.registers t 0xC0) (next_block t)
 
--- all blocks have moved, and each has set DPS if it had to
+-- all blocks have moved, and each has set DPS if it had to; a log of the host's is written now
 abbrev pub finishing : HbaView → TransferView → Option D2hFields → HbaView
 finishing h t None = record h { work = Idle }
-finishing h t (Some fis) = closing h t.slot t.moved false fis
+finishing h t (Some fis) = closing (logging h (logs_behind t.logs h.logs)) t.slot t.moved false fis
 
 -- the next step of a transfer
 abbrev pub going_on : HbaView → TransferView → HbaView

@@ -4,8 +4,10 @@ use Rattle.std.specs.List.{list_any}
 use Rattle.sata_fis.specs.Fields.{D2hFields}
 use Rattle.hba_command.specs.Action.{action_of}
 use Rattle.hba_command.specs.Addressing.{addressed}
-use Rattle.hba_command.specs.Device.{after_error_log, after_page, allows, allows_page}
+use Rattle.hba_command.specs.Device.{after_error_log, after_page, allows, allows_log, allows_page}
 use Rattle.hba_command.specs.DiskPages.{ready_page}
+use Rattle.hba_command.specs.HostLogs.{host_pages}
+use Rattle.hba_command.specs.HostPages.{HostPagesFields}
 use Rattle.hba_command.specs.LogPages.{LogPagesFields}
 use Rattle.hba_command.specs.LongLogs.{long_log_pages}
 use Rattle.hba_command.specs.NotQueued.{unfailed_page}
@@ -22,7 +24,7 @@ use Rattle.hba_command.specs.declared.device.Device.{Device}
 use Rattle.hba_command.specs.declared.disk_page.DiskPage.{DiskPage}
 use Rattle.hba_command.specs.declared.entry.PrdEntry.{PrdEntry}
 use Rattle.hba_command.specs.declared.log.Log.{Log}
-use Rattle.hba_command.specs.declared.log.Log.TheVariants.{Pages, QueuedError}
+use Rattle.hba_command.specs.declared.log.Log.TheVariants.{Host, Pages, QueuedError}
 use Rattle.hba_command.specs.declared.log.LongLog.{LongLog}
 use Rattle.hba_command.specs.declared.page.Page.TheVariants as page
 use Rattle.hba_command.specs.declared.protocol.Protocol.{Protocol}
@@ -31,19 +33,16 @@ use Rattle.hba_command.specs.declared.reply.Reply.{Reply}
 use Rattle.hba_command.specs.declared.reply.Reply.TheVariants as reply
 use Rattle.ahci_port.specs.PortView.{PortView, sectors_in}
 use Rattle.ahci_port.specs.Steps.{IsFlushed, IsIdentified, LacksRoom}
-use Rattle.ahci_hba.specs.Delivering.{beginning, d2h_fis, done, page_answer, read_answer}
+use Rattle.ahci_hba.specs.Delivering.{aborted, beginning, d2h_fis, done, page_answer, read_answer}
 use Rattle.ahci_hba.specs.Failing.{concluded, moves_some, sectors_failed, vacated}
 use Rattle.ahci_hba.specs.HbaView.{CommandView, Fetched, HbaView}
 use Rattle.ahci_hba.specs.Keeping.{changed_by, device_ended, keeping}
 use Rattle.ahci_hba.specs.Marking.{marked_for, marked_on, marking}
 use Rattle.ahci_hba.specs.Powering.{awake, turned}
 use Rattle.ahci_hba.specs.Queueing.{command_at, has_no_blocks, has_queued, is_alone, is_failed, is_on, list_in, task_in}
-use Rattle.ahci_hba.specs.Storing.{content_in, stored}
+use Rattle.ahci_hba.specs.Storing.{content_in, stored, writes_log}
 
--- a command is aborted; the signature of a disk stands in LBA and count (Serial ATA, "Signature")
-abbrev pub aborted : D2hFields
-aborted = d2h_fis 0x41 0x04 0 0
-
+-- the signature of a disk stands in LBA and count (Serial ATA, "Signature")
 abbrev pub signed : ℕ → ℕ → D2hFields
 signed status error = d2h_fis status error 1 1
 
@@ -150,10 +149,16 @@ pages_given h slot p list bytes n = pages_by (vacated h slot) slot p list bytes 
 abbrev pub long_log_in : HbaView → LongLog → LogPagesFields → List ℕ
 long_log_in h log pages = long_log_pages log (sectors_in h.port) h.depth h.device pages.first pages.count
 
+-- some pages of a log of the host's, or the command is aborted
+abbrev pub host_log_given : HbaView → ℕ → Protocol → List PrdEntry → HostPagesFields → HbaView
+host_log_given h slot p list pages =
+    if allows_log h.device pages then pages_given h slot p list (host_pages h.logs pages) pages.count else concluded h slot aborted
+
 -- a log, with no queued command failed. Log 10h ends that the device aborts commands
 abbrev pub log_given : HbaView → ℕ → Protocol → List PrdEntry → Log → HbaView
 log_given h slot p list QueuedError = keeping (paged h slot p list (unfailed_page h.device.collision)) (after_error_log h.device)
 log_given h slot p list (Pages log pages) = pages_given h slot p list (long_log_in h log pages) pages.count
+log_given h slot p list (Host pages) = host_log_given h slot p list pages
 
 -- a page that the disk has ready, or the command is aborted
 abbrev pub disk_page_given : HbaView → ℕ → Protocol → List PrdEntry → DiskPage → HbaView
@@ -195,9 +200,10 @@ Executes false slot a list old new = Performs slot a list old new
 abbrev pub ExecutesAt : ℕ → Action → List PrdEntry → HbaView → HbaView → Type 0
 ExecutesAt slot a list old new = Executes (is_aborted old a) slot a list old new
 
--- an allocation can be refused: for a page, for the journal that a flush stands in, and for the sectors of a read that move
+-- an allocation can be refused: for a page, for a log that is written, for the journal that a flush stands in, and for the sectors of a read that move
 abbrev pub MayLack : HbaView → Action → Type 0
 MayLack h (Page page p) = Unit {0}
+MayLack h (Store s p) = writes_log h.device s ≡ true
 MayLack h (Flush a) = LacksRoom h.port
 MayLack h (Sectors write span p) = moves_some h.port write span (stops_at h.port span (marked_for h (Sectors write span p))) ≡ true
 MayLack h other = ⊥

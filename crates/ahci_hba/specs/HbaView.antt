@@ -2,6 +2,7 @@
 use Rattle.std.specs.Prelude.{ℕ, List, Option}
 use Rattle.hba_command.specs.declared.device.Device.{Device}
 use Rattle.hba_command.specs.declared.entry.PrdEntry.{PrdEntry}
+use Rattle.hba_command.specs.declared.host_page.HostPage.{HostPage}
 use Rattle.hba_command.specs.declared.power.Power.{Power}
 use Rattle.hba_command.specs.declared.task.Task.{Task}
 use Rattle.hba_memory.specs.Posting.{PostingView}
@@ -55,6 +56,8 @@ pub record HbaView : Type 0 where
   pub device : Device
   -- the sectors that are marked uncorrectable: each stays so over every reset and power cycle, until it is written
   pub marks : List ℕ
+  -- the pages of the host's logs that were written: each stays so over every reset and power cycle, until it is written again
+  pub logs : List HostPage
   -- by slot, the commands that were read and are not done
   pub slots : List (Option CommandView)
   -- what is read or written just now

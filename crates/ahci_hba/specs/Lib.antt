@@ -1,6 +1,7 @@
 pub mod Transfer
 pub mod HbaView
 pub mod Marking
+pub mod Logging
 pub mod Powering
 pub mod Keeping
 pub mod States

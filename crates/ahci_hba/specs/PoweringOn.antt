@@ -17,6 +17,7 @@ powered_on h =
       port = port_after (is_reset Reset h) h.port;
       device = power_cycled h.device;
       marks = h.marks;
+      logs = h.logs;
     }
 
 -- the journal that the port hands out if it is reset

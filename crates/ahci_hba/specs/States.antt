@@ -19,6 +19,7 @@ hba_over grows image depth c = record {
   power = Active;
   device = new_device;
   marks = [];
+  logs = [];
   slots = replicate 32 None;
   work = Idle;
 }

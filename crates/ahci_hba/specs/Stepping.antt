@@ -4,7 +4,7 @@ use Rattle.std.specs.List.{list_any}
 use Rattle.hba_command.specs.Action.{action_of}
 use Rattle.hba_command.specs.declared.action.Action.{Action}
 use Rattle.hba_command.specs.declared.action.Action.TheVariants as action
-use Rattle.hba_command.specs.declared.log.Log.TheVariants.{Pages, QueuedError}
+use Rattle.hba_command.specs.declared.log.Log.TheVariants.{Host, Pages, QueuedError}
 use Rattle.hba_command.specs.declared.page.Page.TheVariants.{Disk, Identify, Log}
 use Rattle.ncq_journal.specs.Halted.{halted}
 use Rattle.ncq_journal.specs.History.{History}
@@ -89,6 +89,7 @@ is_answered h (action.Sectors write span p) =
     is_aborted h (action.Sectors write span p) || not (is_on h.port span) || is_some (marked_for h (action.Sectors write span p))
 is_answered h (action.Page Identify p) = is_aborted h (action.Page Identify p) || not (is_some (plain_refusal h.port))
 is_answered h (action.Page (Log (Pages l pages)) p) = true
+is_answered h (action.Page (Log (Host pages)) p) = true
 is_answered h (action.Page (Log QueuedError) p) = list_any has_queued h.slots || not (halted h.port.past)
 is_answered h (action.Page (Disk page) p) = true
 is_answered h (action.Store s p) = true

@@ -1,7 +1,8 @@
 -- A transfer by PIO, block by block (Serial ATA, "PIO Setup"; ACS-3, "PIO data-in command protocol" and "PIO data-out command protocol").
-use Rattle.std.specs.Prelude.{ℕ, ◌+◌, ◌-◌, ◌*◌, Bool, false, not, ◌||◌, ◌&&◌, min, nat_le, nat_lt, List, Option, is_some, if◌then◌else◌}
+use Rattle.std.specs.Prelude.{ℕ, ◌+◌, ◌-◌, ◌*◌, Bool, false, not, ◌||◌, ◌&&◌, min, nat_le, nat_lt, List, Option, None, Some, is_some, if◌then◌else◌}
 use Rattle.sata_fis.specs.Fields.{D2hFields}
 use Rattle.hba_command.specs.declared.entry.PrdEntry.{PrdEntry}
+use Rattle.hba_command.specs.declared.host_page.HostPage.{HostPage}
 use Rattle.hba_memory.specs.Blocks.{BlocksView, after_block, block_list}
 use Rattle.hba_memory.specs.Processing.{has_processed}
 use Rattle.hba_memory.specs.Runs.{total}
@@ -20,6 +21,8 @@ pub record TransferView : Type 0 where
   pub processed : Bool
   pub rest : BlocksView
   pub finish : Option D2hFields
+  -- the host's logs once it ends, if it writes one
+  pub logs : Option (List HostPage)
 
 -- a list has room for so many bytes
 abbrev pub fits : ℕ → List PrdEntry → Bool
@@ -44,7 +47,11 @@ is_last t = nat_le t.left t.most && not (is_some t.finish)
 -- so many sectors come, in blocks of at most so many
 abbrev pub first_block : ℕ → Bool → (n most : ℕ) → BlocksView → Option D2hFields → TransferView
 first_block slot write n most rest finish =
-    record { slot = slot; write = write; most = most; done = 0; left = n; moved = 0; short = false; processed = false; rest = rest; finish = finish }
+    record { slot = slot; write = write; most = most; done = 0; left = n; moved = 0; short = false; processed = false; rest = rest; finish = finish; logs = None }
+
+-- once it ends, the host's logs are these
+abbrev pub writing_log : TransferView → List HostPage → TransferView
+writing_log t logs = record t { logs = Some logs }
 
 -- a block to the driver comes next
 abbrev pub sends_block : TransferView → Bool

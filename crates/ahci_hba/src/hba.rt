@@ -33,7 +33,7 @@ ghost use Rattle.ahci_hba.specs.States.{hba_over, hba_with, new_hba};
 use crate::command::Listed;
 use crate::work::Work;
 use ahci_port::{DiskFault, Port};
-use hba_command::{Device, Power, Uncorrectable};
+use hba_command::{Device, HostLogs, Power, Uncorrectable};
 use hba_regs::{AccessSize, Capabilities, HbaRegs};
 use sector_store::{SectorStore, Whole};
 use std::alloc::{AllocError, Allocator, Global};
@@ -52,6 +52,7 @@ pub struct Hba<A: Allocator = Global, S: SectorStore = Whole<A>> {
     power: Power,
     device: Device,
     uncorrectable: Uncorrectable,
+    logs: HostLogs<A>,
     slots: Vec<Option<Listed<A>>, A>,
     work: Work<A>,
 }
@@ -63,7 +64,7 @@ impl<A: Allocator, S: SectorStore> Model for Hba<A, S> {
 
     ghost Value = { HbaView };
 
-    ghost view = { λ h. record { registers = h.registers; port = h.port; depth = h.depth; power = h.power; device = h.device; marks = h.uncorrectable; slots = h.slots.items; work = work_of h.work } };
+    ghost view = { λ h. record { registers = h.registers; port = h.port; depth = h.depth; power = h.power; device = h.device; marks = h.uncorrectable; logs = h.logs; slots = h.slots.items; work = work_of h.work } };
 
     ghost invariant = { λ h. IsSound h.port h.depth h.slots.items (work_of h.work) };
 }
@@ -188,6 +189,7 @@ impl<A: Allocator + Copy, S: SectorStore + Drop> Hba<A, S> {
             power: Power::Active,
             device: Device::new(),
             uncorrectable: Uncorrectable::new(),
+            logs: HostLogs::new(alloc),
             slots,
             work: Work::Idle,
         })

@@ -1,3 +1,4 @@
+use hba_command::HostLogs;
 use hba_memory::{Blocks, Scatter};
 use hba_regs::Slot;
 use sata_fis::D2h;
@@ -17,6 +18,7 @@ pub(crate) struct Transfer<A: Allocator = Global> {
     processed: bool,
     rest: Blocks<A>,
     finish: Option<D2h>,
+    logs: Option<HostLogs<A>>,
 }
 
 impl<A: Allocator> Model for Transfer<A> {
@@ -25,14 +27,14 @@ impl<A: Allocator> Model for Transfer<A> {
 
     ghost Value = { TransferView };
 
-    ghost view = { λ t. record { slot = t.slot; write = t.write; most = t.most; done = t.done; left = t.left; moved = t.moved; short = t.short; processed = t.processed; rest = t.rest; finish = t.finish } };
+    ghost view = { λ t. record { slot = t.slot; write = t.write; most = t.most; done = t.done; left = t.left; moved = t.moved; short = t.short; processed = t.processed; rest = t.rest; finish = t.finish; logs = t.logs } };
 
     ghost invariant = { λ t. (t.done + t.left ≤ 65536) × (t.moved + 512 * t.left ≤ 33554432) × (1 ≤ t.most) × (t.most ≤ 16) };
 }
 
 impl<A: Allocator> Transfer<A> {
     ghost use Rattle.std.specs.Prelude.{◌≡◌, ◌≤◌, ◌<◌, ◌*◌, ◌+◌};
-    ghost use Rattle.ahci_hba.specs.Transfer.{first_block, fits, has_interrupt, is_last, moved_next, moved_so_far, next_block, next_list, next_processes, next_sectors, sends_block};
+    ghost use Rattle.ahci_hba.specs.Transfer.{first_block, fits, has_interrupt, is_last, moved_next, moved_so_far, next_block, next_list, next_processes, next_sectors, sends_block, writing_log};
 
     /// A transfer of so many sectors, in blocks of at most so many, for a slot; a D2H Register FIS ends it, or its last block.
     pub(crate) fn new(
@@ -59,7 +61,25 @@ impl<A: Allocator> Transfer<A> {
             processed: false,
             rest,
             finish,
+            logs: None,
         }
+    }
+
+    /// The same of a transfer that writes a log of the host's: once it ends the logs are these.
+    pub(crate) fn writing_log(self, logs: HostLogs<A>) -> Self
+        ensures { result ≡ writing_log self logs }
+    {
+        Transfer {
+            logs: Some(logs),
+            ..self
+        }
+    }
+
+    /// The host's logs once it ends, if it writes one.
+    pub(crate) fn into_logs(self) -> Option<HostLogs<A>>
+        ensures { result ≡ self.logs }
+    {
+        self.logs
     }
 
     /// Its slot.

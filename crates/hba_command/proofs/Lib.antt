@@ -1,2 +1,4 @@
 pub mod UncorrectableLemmas
 pub mod WideNameLemmas
+pub mod HostLogLemmas
+pub mod HostLogLaws

@@ -21,9 +21,9 @@ action_of (task.Verify span) = Reply (reply.Verified span)  -- READ VERIFY SECTO
 action_of (task.Mark span) = Reply (reply.Marked span)  -- WRITE UNCORRECTABLE EXT
 action_of (task.Flush a) = Flush a  -- FLUSH CACHE, with EXT or without
 action_of task.Identify = Page page.Identify Pio  -- IDENTIFY DEVICE
-action_of (task.ReadLog log p) = Page (page.Log log) p  -- READ LOG EXT, READ LOG DMA EXT
+action_of (task.ReadLog log p) = Page (page.Log log) p  -- READ LOG EXT, READ LOG DMA EXT, SMART READ LOG
 action_of (task.ReadPage ready p) = Page (page.Disk ready) p  -- READ LOG EXT, READ LOG DMA EXT, SMART, READ BUFFER
-action_of (task.Store s p) = Store s p  -- WRITE BUFFER, with DMA or without, DATA SET MANAGEMENT
+action_of (task.Store s p) = Store s p  -- WRITE BUFFER, with DMA or without, DATA SET MANAGEMENT, WRITE LOG EXT, WRITE LOG DMA EXT, SMART WRITE LOG
 action_of (task.Change c) = Reply (reply.Changed c)  -- SET FEATURES, SET MULTIPLE MODE, SMART
 action_of task.SmartStatus = Reply reply.SmartStatus  -- SMART RETURN STATUS
 action_of (task.NativeMax a) = Reply (reply.NativeMax a)  -- READ NATIVE MAX ADDRESS, with EXT or without
@@ -41,6 +41,7 @@ action_of task.Unknown = Abort  -- every other command
 abbrev pub pages_in_log : Log → ℕ
 pages_in_log log.QueuedError = 1
 pages_in_log (log.Pages l pages) = pages.count
+pages_in_log (log.Host pages) = pages.count
 
 abbrev pub pages_of : Pages → ℕ
 pages_of page.Identify = 1

@@ -8,6 +8,8 @@ use Rattle.hba_command.specs.declared.action.Action.{Action}
 use Rattle.hba_command.specs.declared.action.Action.TheVariants as action
 use Rattle.hba_command.specs.declared.addressing.Addressing.{Addressing}
 use Rattle.hba_command.specs.declared.addressing.Addressing.TheVariants.{Bits28, Bits48}
+use Rattle.hba_command.specs.declared.log.Log.{Log}
+use Rattle.hba_command.specs.declared.log.Log.TheVariants as log
 use Rattle.hba_command.specs.declared.page.Page.TheVariants as page
 use Rattle.hba_command.specs.declared.reply.Reply.{Reply}
 use Rattle.hba_command.specs.declared.reply.Reply.TheVariants as reply
@@ -29,13 +31,19 @@ reply_addressing (reply.Changed c) = Bits28
 reply_addressing reply.SmartStatus = Bits28
 reply_addressing reply.Packet = Bits28
 
+-- READ LOG EXT and READ LOG DMA EXT are of 48 bits, and SMART READ LOG is of 28
+abbrev pub log_addressing : Log → Addressing
+log_addressing log.QueuedError = Bits48
+log_addressing (log.Pages l pages) = Bits48
+log_addressing (log.Host pages) = pages.addressing
+
 abbrev pub addressing_of : Action → Addressing
 addressing_of (action.Queue q) = Bits48  -- READ FPDMA QUEUED, WRITE FPDMA QUEUED
 addressing_of (action.Sectors write span p) = span.addressing  -- READ SECTOR(S), READ MULTIPLE, READ DMA, and the writes of those names, with EXT or without
 addressing_of (action.Page page.Identify p) = Bits28  -- IDENTIFY DEVICE
-addressing_of (action.Page (page.Log log) p) = Bits48  -- READ LOG EXT, READ LOG DMA EXT
+addressing_of (action.Page (page.Log l) p) = log_addressing l
 addressing_of (action.Page (page.Disk ready) p) = page_addressing ready
-addressing_of (action.Store s p) = store_addressing s  -- WRITE BUFFER, with DMA or without, DATA SET MANAGEMENT
+addressing_of (action.Store s p) = store_addressing s
 addressing_of (action.Flush a) = a  -- FLUSH CACHE, with EXT or without
 addressing_of (action.Reply r) = reply_addressing r
 addressing_of (action.Control reset) = Bits28  -- no command

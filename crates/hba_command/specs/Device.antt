@@ -3,9 +3,12 @@
 use Rattle.std.specs.Prelude.{ℕ, ◌+◌, ◌-◌, ◌*◌, ◌%◌, Bool, true, false, not, ◌==◌, ◌&&◌, ◌||◌, List, Option, None, Some, length, replicate, slice_index, slice_set, if◌then◌else◌}
 use Rattle.sata_fis.specs.Places.{bit}
 use Rattle.hba_command.specs.DiskPage.{needs_smart}
+use Rattle.hba_command.specs.HostPages.{HostPagesFields}
 use Rattle.hba_command.specs.Identity.{usual_identity}
 use Rattle.hba_command.specs.PhyEvents.{no_events, with_ending, with_signature}
 use Rattle.hba_command.specs.Words.{with_word}
+use Rattle.hba_command.specs.declared.addressing.Addressing.{Addressing}
+use Rattle.hba_command.specs.declared.addressing.Addressing.TheVariants.{Bits28, Bits48}
 use Rattle.hba_command.specs.declared.change.Change.{Change}
 use Rattle.hba_command.specs.declared.change.Change.TheVariants.{WriteCache, LookAhead, PowerLevel, Reverting, DmaMode, Multiple, Smart, Test, NothingSmart}
 use Rattle.hba_command.specs.declared.device.Device.{Device}
@@ -16,7 +19,7 @@ use Rattle.hba_command.specs.declared.multiple_mode.MultipleMode.TheVariants.{Di
 use Rattle.hba_command.specs.declared.reply.Reply.{Reply}
 use Rattle.hba_command.specs.declared.reply.Reply.TheVariants.{Changed}
 use Rattle.hba_command.specs.declared.store.Store.{Store}
-use Rattle.hba_command.specs.declared.store.Store.TheVariants.{Buffer, Trim}
+use Rattle.hba_command.specs.declared.store.Store.TheVariants.{Buffer, Log, Trim}
 
 -- a disk that has never been used, without a volatile write cache; look-ahead and SMART operations are enabled, Advanced Power Management, READ
 -- and WRITE MULTIPLE are not, Ultra DMA mode 5 is selected, and a software reset leaves the settings (profile)
@@ -133,11 +136,20 @@ device_after_reply other d = d
 abbrev pub allows_page : Device → DiskPage → Bool
 allows_page d page = d.smart || not (needs_smart page)
 
+-- so is a log of the host's read and written by SMART, whose commands are of 28 bits; by those of 48 it always is
+abbrev pub is_of_smart : Addressing → Bool
+is_of_smart Bits28 = true
+is_of_smart Bits48 = false
+
+abbrev pub allows_log : Device → HostPagesFields → Bool
+allows_log d pages = d.smart || not (is_of_smart pages.addressing)
+
 -- WRITE BUFFER has 512 bytes
 abbrev pub buffered : List ℕ → Device → Device
 buffered bytes d = if length bytes == 512 then record d { buffer = bytes } else d
 
--- a trim is advice, and leaves the sectors as they are (profile)
+-- a trim is advice, and leaves the sectors as they are (profile); the logs of the host's aren't among these settings
 abbrev pub after_store : Store → List ℕ → Device → Device
 after_store Buffer bytes d = buffered bytes d
 after_store (Trim blocks) bytes d = d
+after_store (Log pages) bytes d = d

@@ -1,6 +1,6 @@
 -- What the pages say that the disk has ready (ACS-3, by the titles of commands and logs).
 use Rattle.std.specs.Prelude.{List, ℕ, replicate}
-use Rattle.hba_command.specs.Pages.{directory_page}
+use Rattle.hba_command.specs.Pages.{directory_page, with_host_logs}
 use Rattle.hba_command.specs.PhyEvents.{events_page}
 use Rattle.hba_command.specs.Words.{with_checksum, with_word}
 use Rattle.hba_command.specs.declared.device.Device.{Device}
@@ -18,9 +18,9 @@ abbrev pub smart_data : List ℕ
 smart_data =
     with_word 186 0x0101 (with_word 185 0x0001 (with_word 184 0x0003 (with_word 183 0x1100 (with_word 181 0x0002 (with_word 0 0x0001 (replicate 512 0))))))
 
--- version 1 in word 0, and in the words of logs 01h and 06h how many pages they have
+-- version 1 in word 0, and in the words of logs 01h, 06h and those of the host's how many pages they have
 abbrev pub smart_directory : List ℕ
-smart_directory = with_word 0x06 1 (with_word 0x01 1 (with_word 0x00 1 (replicate 512 0)))
+smart_directory = with_host_logs (with_word 0x06 1 (with_word 0x01 1 (with_word 0x00 1 (replicate 512 0))))
 
 abbrev pub ready_page : Device → DiskPage → List ℕ
 ready_page d Directory = directory_page

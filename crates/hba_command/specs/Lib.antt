@@ -3,6 +3,7 @@ pub mod PrdEntry
 pub mod Span
 pub mod Uncorrectable
 pub mod LogPages
+pub mod HostPages
 pub mod DiskPage
 pub mod Store
 pub mod CommandFis
@@ -21,3 +22,4 @@ pub mod IdentifyLog
 pub mod NotQueued
 pub mod LongLogs
 pub mod DiskPages
+pub mod HostLogs

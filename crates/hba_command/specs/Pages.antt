@@ -4,7 +4,7 @@ use Rattle.std.specs.Prelude.{ℕ, ◌+◌, ◌-◌, ◌/◌, ◌%◌, ◌^◌, 
 use Rattle.ncq_core.specs.Identify.{identify_page}
 use Rattle.hba_command.specs.MultipleMode.{multiple_word}
 use Rattle.hba_command.specs.WideName.{wide_name}
-use Rattle.hba_command.specs.Words.{with_text, with_word}
+use Rattle.hba_command.specs.Words.{with_text, with_word, with_words}
 use Rattle.hba_command.specs.declared.device.Device.{Device}
 use Rattle.hba_command.specs.declared.identity.Identity.{Identity}
 
@@ -78,10 +78,14 @@ controller_page s d device =
     (with_commands (with_enabled device (with_supported device (with_modes device
     (with_capabilities device (with_identity device.identity (identify_page s d)))))))
 
+-- a directory of logs with those of the host's, 80h to 9Fh, of 16 pages each
+abbrev pub with_host_logs : List ℕ → List ℕ
+with_host_logs page = with_words 0x80 16 32 page
+
 -- version 1 in word 0, and in the word of each log how many pages it has
 abbrev pub directory_page : List ℕ
 directory_page =
-    with_word 0x30 7 (with_word 0x11 1 (with_word 0x10 1 (with_word 0x07 1 (with_word 0x04 2 (with_word 0x03 1 (with_word 0x00 1 (replicate 512 0)))))))
+    with_host_logs (with_word 0x30 7 (with_word 0x11 1 (with_word 0x10 1 (with_word 0x07 1 (with_word 0x04 2 (with_word 0x03 1 (with_word 0x00 1 (replicate 512 0))))))))
 
 -- bit 7 of byte 0, NQ: no queued command has failed; byte 511 makes the sum 0 modulo 256
 abbrev pub not_queued_page : List ℕ

@@ -1,21 +1,23 @@
--- What the disk does with data that are no sectors (ACS-3, "WRITE BUFFER", "WRITE BUFFER DMA" and "DATA SET MANAGEMENT").
+-- What the disk does with data that are no sectors (ACS-3, "WRITE BUFFER", "WRITE BUFFER DMA", "DATA SET MANAGEMENT", "WRITE LOG EXT" and "SMART WRITE LOG").
 use Rattle.std.specs.Prelude.{ℕ, ◌+◌, ◌*◌, ◌/◌, ◌%◌, ◌^◌, Bool, not, ◌==◌, ◌&&◌, nat_lt, List, length}
 use Rattle.std.specs.List.{list_any, range_with_len}
 use Rattle.sata_fis.specs.Places.{number}
 use Rattle.hba_command.specs.declared.addressing.Addressing.{Addressing}
 use Rattle.hba_command.specs.declared.addressing.Addressing.TheVariants.{Bits28, Bits48}
 use Rattle.hba_command.specs.declared.store.Store.{Store}
-use Rattle.hba_command.specs.declared.store.Store.TheVariants.{Buffer, Trim}
+use Rattle.hba_command.specs.declared.store.Store.TheVariants.{Buffer, Log, Trim}
 
 -- how many blocks of 512 bytes they have
 abbrev pub blocks_of : Store → ℕ
 blocks_of Buffer = 1
 blocks_of (Trim blocks) = blocks
+blocks_of (Log pages) = pages.count
 
--- DATA SET MANAGEMENT is a command of 48 bits
+-- DATA SET MANAGEMENT is a command of 48 bits, as WRITE LOG EXT and WRITE LOG DMA EXT are; SMART WRITE LOG is one of 28
 abbrev pub store_addressing : Store → Addressing
 store_addressing Buffer = Bits28
 store_addressing (Trim blocks) = Bits48
+store_addressing (Log pages) = pages.addressing
 
 -- an LBA Range Entry has eight bytes: the first LBA in bits 47:0, and how many sectors in bits 63:48, of which none is passed over ("LBA
 -- Range Entry")

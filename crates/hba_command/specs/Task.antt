@@ -3,12 +3,13 @@ use Rattle.std.specs.Prelude.{ℕ, ◌+◌, ◌*◌, ◌/◌, ◌%◌, ◌^◌, 
 use Rattle.sata_fis.specs.Command.{queued_in}
 use Rattle.sata_fis.specs.Fields.{H2dFields, QueuedFields}
 use Rattle.sata_fis.specs.Places.{bit}
+use Rattle.hba_command.specs.HostPages.{HostPagesFields}
 use Rattle.hba_command.specs.LogPages.{LogPagesFields}
 use Rattle.hba_command.specs.Span.{SpanFields}
 use Rattle.hba_command.specs.declared.addressing.Addressing.TheVariants.{Bits28, Bits48}
 use Rattle.hba_command.specs.declared.change.Change.TheVariants.{WriteCache, LookAhead, PowerLevel, Reverting, DmaMode, Multiple as Blocks, Smart, Test, NothingSmart}
 use Rattle.hba_command.specs.declared.disk_page.DiskPage.TheVariants.{Directory, Errors, Tests, PhyEvents, SmartData, SmartThresholds, SmartDirectory, SmartErrors, SmartTests, Buffer}
-use Rattle.hba_command.specs.declared.log.Log.TheVariants.{Pages, QueuedError}
+use Rattle.hba_command.specs.declared.log.Log.TheVariants.{Host, Pages, QueuedError}
 use Rattle.hba_command.specs.declared.log.LongLog.TheVariants.{Statistics, IdentifyData}
 use Rattle.hba_command.specs.declared.multiple_mode.MultipleMode.TheVariants.{Disabled, One, Two, Four, Eight, Sixteen}
 use Rattle.hba_command.specs.declared.protocol.Protocol.{Protocol}
@@ -37,12 +38,15 @@ abbrev pub first_page : H2dFields → ℕ
 first_page f = f.lba / 2 ^ 8 % 256 + 256 * (f.lba / 2 ^ 32 % 256)
 
 -- log 00h is the directory, log 03h the Extended Comprehensive SMART Error log, log 04h the Device Statistics log, log 07h the Extended SMART
--- Self-Test log, log 10h the NCQ Command Error log, log 11h the SATA Phy Event Counters log, log 30h the IDENTIFY DEVICE data log; there is no other. Bit 0 of features resets the
--- counters of log 11h once they are read
+-- Self-Test log, log 10h the NCQ Command Error log, log 11h the SATA Phy Event Counters log, log 30h the IDENTIFY DEVICE data log, and logs 80h to 9Fh are
+-- the host's; there is no other. Bit 0 of features resets the counters of log 11h once they are read
+abbrev pub is_host_log : (log : ℕ) → Bool
+is_host_log log = nat_le 0x80 log && nat_le log 0x9F
+
 abbrev pub pages_in : ℕ → ℕ
 pages_in log =
     if log == 0x00 || log == 0x03 || log == 0x07 || log == 0x10 || log == 0x11 then 1
-    else (if log == 0x04 then 2 else (if log == 0x30 then 7 else 0))
+    else (if log == 0x04 then 2 else (if log == 0x30 then 7 else (if is_host_log log then 16 else 0)))
 
 -- the count is of pages that the log has, at least one
 abbrev pub is_in_log : H2dFields → Bool
@@ -50,6 +54,9 @@ is_in_log f = not (f.count == 0) && nat_le (first_page f + f.count) (pages_in (l
 
 abbrev pub pages_asked : H2dFields → LogPagesFields
 pages_asked f = record { first = first_page f; count = f.count }
+
+abbrev pub host_pages_asked : H2dFields → HostPagesFields
+host_pages_asked f = record { log = log_of f; first = first_page f; count = f.count; addressing = Bits48 }
 
 abbrev pub log_task : H2dFields → Protocol → Task
 log_task f p =
@@ -61,7 +68,12 @@ log_task f p =
     else (if log_of f == 0x10 then ReadLog QueuedError p
     else (if log_of f == 0x11 then ReadPage (PhyEvents (f.features % 2 == 1)) p
     else (if log_of f == 0x30 then ReadLog (Pages IdentifyData (pages_asked f)) p
-    else Unknown)))))))
+    else (if is_host_log (log_of f) then ReadLog (Host (host_pages_asked f)) p
+    else Unknown))))))))
+
+-- WRITE LOG EXT and WRITE LOG DMA EXT: the host writes its own logs alone; each other one is read-only
+abbrev pub write_log_task : H2dFields → Protocol → Task
+write_log_task f p = if is_host_log (log_of f) && is_in_log f then Store (store.Log (host_pages_asked f)) p else Unknown
 
 -- SET FEATURES 03h (ACS-3, "Set transfer mode"), by its count: the default PIO mode, and PIO modes 0 to 4, which no word of IDENTIFY DEVICE shows; multiword
 -- DMA modes 0 to 2, and Ultra DMA modes 0 to 5
@@ -96,13 +108,27 @@ offline_task subcommand =
     else (if subcommand == 0x01 || subcommand == 0x02 || subcommand == 0x81 || subcommand == 0x82 then Change (Test subcommand)
     else Unknown)
 
--- SMART READ LOG, of one page
-abbrev pub smart_log_task : ℕ → Task
-smart_log_task log =
+-- SMART READ LOG and SMART WRITE LOG name the log by LBA 7:0, and how many of its pages, from the first one on: of one of the host's 1 to 16
+abbrev pub smart_pages : (log count : ℕ) → HostPagesFields
+smart_pages log count = record { log = log; first = 0; count = count; addressing = Bits28 }
+
+abbrev pub names_host_pages : (log count : ℕ) → Bool
+names_host_pages log count = is_host_log log && nat_le 1 count && nat_le count 16
+
+-- of each other log SMART READ LOG reads its one page
+abbrev pub smart_page_task : (log : ℕ) → Task
+smart_page_task log =
     if log == 0x00 then ReadPage SmartDirectory Pio
     else (if log == 0x01 then ReadPage SmartErrors Pio
     else (if log == 0x06 then ReadPage SmartTests Pio
     else Unknown))
+
+abbrev pub smart_read_task : (log count : ℕ) → Task
+smart_read_task log count =
+    if names_host_pages log count then ReadLog (Host (smart_pages log count)) Pio else (if count == 1 then smart_page_task log else Unknown)
+
+abbrev pub smart_write_task : (log count : ℕ) → Task
+smart_write_task log count = if names_host_pages log count then Store (store.Log (smart_pages log count)) Pio else Unknown
 
 -- SMART, by its subcommand, with LBA 7:0 and the count
 abbrev pub smart_task : (subcommand low count : ℕ) → Task
@@ -111,11 +137,12 @@ smart_task subcommand low count =
     else (if subcommand == 0xD1 then ReadPage SmartThresholds Pio  -- SMART READ THRESHOLDS
     else (if subcommand == 0xD2 && (count % 256 == 0x00 || count % 256 == 0xF1) then Change NothingSmart  -- SMART ENABLE/DISABLE ATTRIBUTE AUTOSAVE
     else (if subcommand == 0xD4 then offline_task low  -- SMART EXECUTE OFF-LINE IMMEDIATE
-    else (if subcommand == 0xD5 && count % 256 == 1 then smart_log_task low  -- SMART READ LOG
+    else (if subcommand == 0xD5 then smart_read_task low (count % 256)  -- SMART READ LOG
+    else (if subcommand == 0xD6 then smart_write_task low (count % 256)  -- SMART WRITE LOG
     else (if subcommand == 0xD8 then Change (Smart true)  -- SMART ENABLE OPERATIONS
     else (if subcommand == 0xD9 then Change (Smart false)  -- SMART DISABLE OPERATIONS
     else (if subcommand == 0xDA then SmartStatus  -- SMART RETURN STATUS
-    else Unknown)))))))
+    else Unknown))))))))
 
 -- by the code of a command of settings, of SMART, whose LBA 23:8 is C24Fh, or of data that are no sectors
 abbrev pub settings_task : ℕ → H2dFields → Task
@@ -172,10 +199,12 @@ task_by code f =
     else (if code == 0x34 then Write (long_span f) Pio  -- WRITE SECTOR(S) EXT
     else (if code == 0x35 then Write (long_span f) Dma  -- WRITE DMA EXT
     else (if code == 0x3D then Write (long_span f) Dma  -- WRITE DMA FUA EXT
+    else (if code == 0x3F then write_log_task f Pio  -- WRITE LOG EXT
     else (if code == 0x40 then Verify (short_span f)  -- READ VERIFY SECTOR(S)
     else (if code == 0x42 then Verify (long_span f)  -- READ VERIFY SECTOR(S) EXT
     else (if code == 0x45 then mark_task f  -- WRITE UNCORRECTABLE EXT
     else (if code == 0x47 then log_task f Dma  -- READ LOG DMA EXT
+    else (if code == 0x57 then write_log_task f Dma  -- WRITE LOG DMA EXT
     else (if code == 0x90 then Diagnose  -- EXECUTE DEVICE DIAGNOSTIC
     else (if code == 0xA1 then Packet  -- IDENTIFY PACKET DEVICE
     else (if code == 0xC8 then Read (short_span f) Dma  -- READ DMA
@@ -188,7 +217,7 @@ task_by code f =
     else (if code == 0xEA then Flush Bits48  -- FLUSH CACHE EXT
     else (if code == 0xEC then Identify  -- IDENTIFY DEVICE
     else (if code == 0xF8 then NativeMax Bits28  -- READ NATIVE MAX ADDRESS
-    else multiple_task code f))))))))))))))))))))))))
+    else multiple_task code f))))))))))))))))))))))))))
 
 -- a queued command, else one that is not
 abbrev pub command_task : H2dFields → Option QueuedFields → Task

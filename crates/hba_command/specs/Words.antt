@@ -8,6 +8,11 @@ use Rattle.ncq_core.specs.Log.{checksum}
 abbrev pub with_word : ℕ → ℕ → List ℕ → List ℕ
 with_word w value page = replace_range page (2 * w) (2 * w + 2) (word_bytes value)
 
+-- a page with the same value in so many words, from one on
+unfoldable pub with_words : (first value count : ℕ) → List ℕ → List ℕ
+with_words first value zero page = page
+with_words first value (suc n) page = with_word (first + n) value (with_words first value n page)
+
 -- word i of a text: the first of its two characters is the high byte ("ATA String Convention")
 abbrev pub text_word : List ℕ → ℕ → ℕ
 text_word text i = 256 * slice_index text (2 * i) + slice_index text (2 * i + 1)

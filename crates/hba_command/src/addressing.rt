@@ -1,8 +1,9 @@
 ghost use Rattle.std.specs.Prelude.{◌≡◌, ◌<◌, ◌^◌};
-ghost use Rattle.hba_command.specs.Addressing.{addressed, addressing_of, reply_addressing};
+ghost use Rattle.hba_command.specs.Addressing.{addressed, addressing_of, log_addressing, reply_addressing};
 
 use crate::action::Action;
 use crate::disk_page::page_addressing;
+use crate::log::Log;
 use crate::page::Page;
 use crate::reply::Reply;
 use crate::store::store_addressing;
@@ -45,6 +46,16 @@ fn reply_addressing(reply: &Reply) -> Addressing
     }
 }
 
+/// How many bits the LBA of the command has that reads a log.
+fn log_addressing(log: &Log) -> Addressing
+    ensures { result ≡ log_addressing log.now }
+{
+    match log {
+        Log::QueuedError | Log::Pages(_, _) => Addressing::Bits48,
+        Log::Host(pages) => pages.addressing,
+    }
+}
+
 /// How many bits the LBA of a command has.
 pub fn addressing_of(action: &Action) -> Addressing
     ensures { result ≡ addressing_of action.now }
@@ -53,7 +64,7 @@ pub fn addressing_of(action: &Action) -> Addressing
         Action::Queue(_) => Addressing::Bits48,
         Action::Sectors { span, .. } => span.addressing,
         Action::Page(Page::Identify, _) => Addressing::Bits28,
-        Action::Page(Page::Log(_), _) => Addressing::Bits48,
+        Action::Page(Page::Log(log), _) => log_addressing(log),
         Action::Page(Page::Disk(page), _) => page_addressing(*page),
         Action::Store(store, _) => store_addressing(store),
         Action::Flush(addressing) => *addressing,

@@ -1,12 +1,14 @@
 //! What the disk keeps between commands (ACS-3, "SET FEATURES", "SET MULTIPLE MODE", "SMART", "WRITE BUFFER" and "IDENTIFY DEVICE").
 
 ghost use Rattle.std.specs.Prelude.{◌≡◌, replicate};
-ghost use Rattle.hba_command.specs.Device.{after_change, after_ending, after_error_log, after_page, after_signature, after_srst, after_store, allows, allows_page, buffered};
-ghost use Rattle.hba_command.specs.Device.{changed, collided, device_after_reply, more_tested, named, new_device, power_cycled, reset_device, tested, with_cache};
+ghost use Rattle.hba_command.specs.Device.{after_change, after_ending, after_error_log, after_page, after_signature, after_srst, after_store, allows, allows_log, allows_page, buffered};
+ghost use Rattle.hba_command.specs.Device.{changed, collided, device_after_reply, is_of_smart, more_tested, named, new_device, power_cycled, reset_device, tested, with_cache};
 ghost use Rattle.hba_command.specs.Words.{with_word};
 
+use crate::addressing::Addressing;
 use crate::change::Change;
 use crate::disk_page::{DiskPage, needs_smart};
+use crate::host_pages::HostPages;
 use crate::identity::Identity;
 use crate::multiple_mode::MultipleMode;
 use crate::phy_events::{PhyEvents, with_ending, with_signature};
@@ -307,6 +309,23 @@ pub fn allows_page(device: &Device, page: DiskPage) -> bool
     device.smart || !needs_smart(page)
 }
 
+/// Whether a command that names a log so is of the SMART feature set.
+fn is_of_smart(addressing: Addressing) -> bool
+    ensures { result ≡ is_of_smart addressing }
+{
+    match addressing {
+        Addressing::Bits28 => true,
+        Addressing::Bits48 => false,
+    }
+}
+
+/// Whether a log of the host's is read or written: by SMART only while that is enabled.
+pub fn allows_log(device: &Device, pages: &HostPages) -> bool
+    ensures { result ≡ allows_log device.now pages.now }
+{
+    device.smart || !is_of_smart(pages.addressing)
+}
+
 /// The disk with other bytes in its buffer, if there are 512.
 fn buffered(device: &Device, bytes: &[u8]) -> Device
     ensures { result ≡ buffered bytes.now device.now }
@@ -325,6 +344,6 @@ pub fn after_store(store: &Store, device: &Device, bytes: &[u8]) -> Device
 {
     match store {
         Store::Buffer => buffered(device, bytes),
-        Store::Trim(_) => *device,
+        Store::Trim(_) | Store::Log(_) => *device,
     }
 }

@@ -5,7 +5,7 @@ ghost use Rattle.hba_command.specs.{DiskPages.{ready_page, revision_page, smart_
 
 use crate::device::Device;
 use crate::disk_page::DiskPage;
-use crate::pages::directory_page;
+use crate::pages::{directory_page, put_host_logs};
 use crate::phy_events::events_page;
 use crate::words::{put_checksum, put_word};
 
@@ -41,7 +41,7 @@ fn smart_data() -> [u8; 512]
     page
 }
 
-/// Log 00h by SMART READ LOG: version 1, and logs 01h and 06h have one page each.
+/// Log 00h by SMART READ LOG: version 1, logs 01h and 06h have one page each, and those of the host's 16.
 fn smart_directory() -> [u8; 512]
     ensures { result ≡ smart_directory }
 {
@@ -49,6 +49,7 @@ fn smart_directory() -> [u8; 512]
     put_word(&mut page, 0x00, 0x0001);
     put_word(&mut page, 0x01, 0x0001);
     put_word(&mut page, 0x06, 0x0001);
+    put_host_logs(&mut page);
     page
 }
 

@@ -1,7 +1,7 @@
 //! What a driver puts into memory for a controller: the command header, the entries of the PRDT, and what the command FIS asks of
 //! the disk (AHCI 1.3.1, section 4.2; ACS-3). Beside it, the pages that the controller's disk answers with.
 //!
-//! No call allocates, and each returns on all bytes.
+//! No call allocates but those of `HostLogs`, and each returns on all bytes.
 #![tactic(auto)]
 
 mod action;
@@ -13,6 +13,9 @@ mod disk_pages;
 mod entry;
 mod fis;
 mod header;
+mod host_logs;
+mod host_page;
+mod host_pages;
 mod identify_log;
 mod identity;
 mod log;
@@ -39,13 +42,17 @@ pub use addressing::{Addressing, addressed, addressing_of};
 pub use change::Change;
 pub use device::{
     Device, after_ending, after_error_log, after_page, after_signature, after_srst, after_store,
-    allows, allows_page, device_after_reply, named, power_cycled, reset_device, with_cache,
+    allows, allows_log, allows_page, device_after_reply, named, power_cycled, reset_device,
+    with_cache,
 };
 pub use disk_page::DiskPage;
 pub use disk_pages::ready_page;
 pub use entry::PrdEntry;
 pub use fis::command_fis;
 pub use header::CommandHeader;
+pub use host_logs::{HostLogs, a_page_is_what_was_written_last};
+pub use host_page::HostPage;
+pub use host_pages::HostPages;
 pub use identity::Identity;
 pub use log::{Log, LongLog};
 pub use log_pages::LogPages;

@@ -1,3 +1,4 @@
+use crate::host_pages::HostPages;
 use crate::log_pages::LogPages;
 
 /// The logs of several pages (ACS-3, "Device Statistics log" and "IDENTIFY DEVICE data log").
@@ -16,4 +17,6 @@ pub enum Log {
     QueuedError,
     /// Some pages of a log of several.
     Pages(LongLog, LogPages),
+    /// Some pages of a log of the host's (ACS-3, "Host Specific logs").
+    Host(HostPages),
 }

@@ -9,7 +9,7 @@ use crate::log::Log;
 pub enum Page {
     /// IDENTIFY DEVICE.
     Identify,
-    /// READ LOG EXT and READ LOG DMA EXT, of pages that there are.
+    /// READ LOG EXT, READ LOG DMA EXT and SMART READ LOG, of pages that there are.
     Log(Log),
     /// A page that the disk has ready.
     Disk(DiskPage),
@@ -18,18 +18,19 @@ pub enum Page {
 /// How many pages are read of a log.
 pub fn pages_in_log(log: &Log) -> u32
     ensures value { result ≡ pages_in_log log.now }
-    ensures most { result ≤ 7 }
+    ensures most { result ≤ 16 }
 {
     match log {
         Log::QueuedError => 1,
         Log::Pages(_, pages) => pages.count,
+        Log::Host(pages) => pages.count,
     }
 }
 
 /// How many pages of 512 bytes they are.
 pub fn pages_of(page: &Page) -> u32
     ensures value { result ≡ pages_of page.now }
-    ensures most { result ≤ 7 }
+    ensures most { result ≤ 16 }
 {
     match page {
         Page::Identify | Page::Disk(_) => 1,

@@ -2,14 +2,14 @@
 
 ghost use Rattle.std.specs.Prelude.{◌≡◌, ◌≤◌};
 ghost use Rattle.hba_command.specs.MultipleMode.{multiple_word};
-ghost use Rattle.hba_command.specs.Pages.{controller_page, directory_page, enabled, further_enabled, multiword_word, not_queued_page, supported, ultra_word, with_capabilities, with_commands, with_cycle_times, with_enabled, with_identity, with_modes, with_name, with_supported};
+ghost use Rattle.hba_command.specs.Pages.{controller_page, directory_page, enabled, further_enabled, multiword_word, not_queued_page, supported, ultra_word, with_capabilities, with_commands, with_cycle_times, with_enabled, with_host_logs, with_identity, with_modes, with_name, with_supported};
 ghost use Rattle.hba_command.specs.WideName.{wide_name};
 
 use crate::device::Device;
 use crate::identity::Identity;
 use crate::multiple_mode::{MultipleMode, multiple_sectors};
 use crate::wide_name::wide_name;
-use crate::words::{put_text, put_word};
+use crate::words::{put_text, put_word, put_words};
 use ncq_core::identify_page;
 
 /// Puts the cycle times of multiword DMA and PIO into a page, in nanoseconds.
@@ -177,6 +177,13 @@ pub fn controller_page(sectors: u32, depth: u32, device: &Device) -> [u8; 512]
     page
 }
 
+/// Puts the logs of the host's into a directory of logs: 16 pages each.
+pub(crate) fn put_host_logs(page: &mut [u8; 512])
+    ensures { page.new ≡ with_host_logs page.old }
+{
+    put_words(page, 0x80, 16, 32);
+}
+
 /// What READ LOG EXT reads of log 00h: version 1, and how many pages each log has (ACS-3, "General Purpose Log directory").
 pub(crate) fn directory_page() -> [u8; 512]
     ensures { result ≡ directory_page }
@@ -189,6 +196,7 @@ pub(crate) fn directory_page() -> [u8; 512]
     put_word(&mut page, 0x10, 0x0001);
     put_word(&mut page, 0x11, 0x0001);
     put_word(&mut page, 0x30, 0x0007);
+    put_host_logs(&mut page);
     page
 }
 

@@ -3,6 +3,7 @@ ghost use Rattle.sata_fis.specs.Places.{number};
 ghost use Rattle.hba_command.specs.Store.{blocks_of, entry_leaves, leaves_disk, store_addressing};
 
 use crate::addressing::Addressing;
+use crate::host_pages::HostPages;
 use byteorder::{ByteOrder, LittleEndian};
 
 /// What the disk does with data that are no sectors (ACS-3, by the commands' titles).
@@ -12,6 +13,8 @@ pub enum Store {
     Buffer,
     /// DATA SET MANAGEMENT with TRIM: so many blocks of LBA Range Entries.
     Trim(u8),
+    /// WRITE LOG EXT, WRITE LOG DMA EXT and SMART WRITE LOG: it writes these pages of a log of the host's.
+    Log(HostPages),
 }
 
 /// How many blocks of 512 bytes the data have.
@@ -22,6 +25,7 @@ pub fn blocks_of(store: &Store) -> u32
     match store {
         Store::Buffer => 1,
         Store::Trim(blocks) => u32::from(*blocks),
+        Store::Log(pages) => pages.count,
     }
 }
 
@@ -32,6 +36,7 @@ pub(crate) fn store_addressing(store: &Store) -> Addressing
     match store {
         Store::Buffer => Addressing::Bits28,
         Store::Trim(_) => Addressing::Bits48,
+        Store::Log(pages) => pages.addressing,
     }
 }
 

@@ -24,11 +24,11 @@ pub enum Task {
     Flush(Addressing),
     /// IDENTIFY DEVICE.
     Identify,
-    /// READ LOG EXT and READ LOG DMA EXT, of pages that there are and that the disk hasn't ready.
+    /// READ LOG EXT, READ LOG DMA EXT and SMART READ LOG, of pages that there are and that the disk hasn't ready.
     ReadLog(Log, Protocol),
     /// READ LOG EXT, READ LOG DMA EXT, SMART and READ BUFFER, of a page that the disk has ready.
     ReadPage(DiskPage, Protocol),
-    /// WRITE BUFFER, with DMA or without, and DATA SET MANAGEMENT.
+    /// WRITE BUFFER, with DMA or without, DATA SET MANAGEMENT, and WRITE LOG EXT, WRITE LOG DMA EXT and SMART WRITE LOG of a log of the host's.
     Store(Store, Protocol),
     /// SET FEATURES, SET MULTIPLE MODE, SMART ENABLE OPERATIONS and its kin: what is changed.
     Change(Change),

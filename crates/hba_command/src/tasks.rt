@@ -1,11 +1,13 @@
 //! The commands by their codes (ACS-3).
 
-ghost use Rattle.std.specs.Prelude.{◌≡◌, ◌%◌, ◌<◌, ◌^◌};
-ghost use Rattle.hba_command.specs.Task.{features_task, first_page, log_task, long_span, mark_task, marks_sectors, mode_task, multiple_task, offline_task, pages_in, settings_task, short_span, smart_log_task, smart_task, task_by, task_of, transfer_task};
+ghost use Rattle.std.specs.Prelude.{◌≡◌, ◌%◌, ◌<◌, ◌^◌, true};
+ghost use Rattle.hba_command.specs.Task.{features_task, first_page, host_pages_asked, is_host_log, is_in_log, log_of, log_task, long_span, mark_task, marks_sectors, mode_task, multiple_task, names_host_pages};
+ghost use Rattle.hba_command.specs.Task.{offline_task, pages_in, settings_task, short_span, smart_page_task, smart_pages, smart_read_task, smart_task, smart_write_task, task_by, task_of, transfer_task, write_log_task};
 
 use crate::addressing::Addressing;
 use crate::change::Change;
 use crate::disk_page::DiskPage;
+use crate::host_pages::HostPages;
 use crate::log::{Log, LongLog};
 use crate::log_pages::LogPages;
 use crate::multiple_mode::MultipleMode;
@@ -41,14 +43,22 @@ fn long_span(h2d: &H2d) -> Span
     }
 }
 
+/// Whether a log is one of the host's.
+fn is_host_log(log: u8) -> bool
+    ensures { result ≡ is_host_log log }
+{
+    matches!(log, 0x80..=0x9F)
+}
+
 /// How many pages a log has; 0 of one that there is not.
-fn pages_in(log: u64) -> u32
+fn pages_in(log: u8) -> u32
     ensures { result ≡ pages_in log }
 {
     match log {
         0x00 | 0x03 | 0x07 | 0x10 | 0x11 => 1,
         0x04 => 2,
         0x30 => 7,
+        0x80..=0x9F => 16,
         _ => 0,
     }
 }
@@ -60,17 +70,44 @@ fn first_page(h2d: &H2d) -> u32
     (h2d.lba / 256 % 256 + 256 * ((h2d.lba >> 32) % 256)) as u32
 }
 
+/// The log, LBA 7:0.
+fn log_of(h2d: &H2d) -> u8
+    ensures { result ≡ log_of h2d.now }
+{
+    (h2d.lba % 256) as u8
+}
+
+/// Whether the log has each page that is asked for, at least one.
+fn is_in_log(h2d: &H2d) -> bool
+    ensures { result ≡ is_in_log h2d.now }
+{
+    h2d.count != 0 && first_page(h2d) + u32::from(h2d.count) <= pages_in(log_of(h2d))
+}
+
+/// The pages of a log of the host's that are asked for.
+fn host_pages_asked(h2d: &H2d) -> HostPages
+    requires host { is_host_log (log_of h2d.now) ≡ true }
+    requires there { is_in_log h2d.now ≡ true }
+    ensures { result ≡ host_pages_asked h2d.now }
+{
+    HostPages {
+        log: log_of(h2d),
+        first: first_page(h2d),
+        count: u32::from(h2d.count),
+        addressing: Addressing::Bits48,
+    }
+}
+
 /// READ LOG EXT and READ LOG DMA EXT: the log stands in LBA 7:0, and it has each page that is asked for, at least one.
 fn log_task(h2d: &H2d, protocol: Protocol) -> Task
     ensures { result ≡ log_task h2d.now protocol }
 {
-    let log = h2d.lba % 256;
-    let first = first_page(h2d);
-    let count = u32::from(h2d.count);
-    if count == 0 || first + count > pages_in(log) {
+    if !is_in_log(h2d) {
         return Task::Unknown;
     }
-    match log {
+    let first = first_page(h2d);
+    let count = u32::from(h2d.count);
+    match log_of(h2d) {
         0x00 => Task::ReadPage(DiskPage::Directory, protocol),
         0x03 => Task::ReadPage(DiskPage::Errors, protocol),
         0x04 => Task::ReadLog(
@@ -91,7 +128,19 @@ fn log_task(h2d: &H2d, protocol: Protocol) -> Task
                 protocol,
             )
         }
+        0x80..=0x9F => Task::ReadLog(Log::Host(host_pages_asked(h2d)), protocol),
         _ => Task::Unknown,
+    }
+}
+
+/// WRITE LOG EXT and WRITE LOG DMA EXT: of a log of the host's, since each other one is read-only.
+fn write_log_task(h2d: &H2d, protocol: Protocol) -> Task
+    ensures { result ≡ write_log_task h2d.now protocol }
+{
+    if is_host_log(log_of(h2d)) && is_in_log(h2d) {
+        Task::Store(Store::Log(host_pages_asked(h2d)), protocol)
+    } else {
+        Task::Unknown
     }
 }
 
@@ -138,15 +187,59 @@ fn offline_task(subcommand: u8) -> Task
     }
 }
 
-/// SMART READ LOG of one page, by the log.
-fn smart_log_task(log: u8) -> Task
-    ensures { result ≡ smart_log_task log }
+/// Whether SMART READ LOG or SMART WRITE LOG names pages of a log of the host's, from the first one on.
+fn names_host_pages(log: u8, count: u8) -> bool
+    ensures { result ≡ names_host_pages log count }
+{
+    is_host_log(log) && 1 <= count && count <= 16
+}
+
+/// These pages.
+fn smart_pages(log: u8, count: u8) -> HostPages
+    requires { names_host_pages log count ≡ true }
+    ensures { result ≡ smart_pages log count }
+{
+    HostPages {
+        log,
+        first: 0,
+        count: u32::from(count),
+        addressing: Addressing::Bits28,
+    }
+}
+
+/// SMART READ LOG of a log that has one page.
+fn smart_page_task(log: u8) -> Task
+    ensures { result ≡ smart_page_task log }
 {
     match log {
         0x00 => Task::ReadPage(DiskPage::SmartDirectory, Protocol::Pio),
         0x01 => Task::ReadPage(DiskPage::SmartErrors, Protocol::Pio),
         0x06 => Task::ReadPage(DiskPage::SmartTests, Protocol::Pio),
         _ => Task::Unknown,
+    }
+}
+
+/// SMART READ LOG.
+fn smart_read_task(log: u8, count: u8) -> Task
+    ensures { result ≡ smart_read_task log count }
+{
+    if names_host_pages(log, count) {
+        Task::ReadLog(Log::Host(smart_pages(log, count)), Protocol::Pio)
+    } else if count == 1 {
+        smart_page_task(log)
+    } else {
+        Task::Unknown
+    }
+}
+
+/// SMART WRITE LOG.
+fn smart_write_task(log: u8, count: u8) -> Task
+    ensures { result ≡ smart_write_task log count }
+{
+    if names_host_pages(log, count) {
+        Task::Store(Store::Log(smart_pages(log, count)), Protocol::Pio)
+    } else {
+        Task::Unknown
     }
 }
 
@@ -159,7 +252,8 @@ fn smart_task(subcommand: u16, low: u8, count: u16) -> Task
         0xD1 => Task::ReadPage(DiskPage::SmartThresholds, Protocol::Pio), // SMART READ THRESHOLDS
         0xD2 if count % 256 == 0x00 || count % 256 == 0xF1 => Task::Change(Change::NothingSmart), // SMART ENABLE/DISABLE ATTRIBUTE AUTOSAVE
         0xD4 => offline_task(low), // SMART EXECUTE OFF-LINE IMMEDIATE
-        0xD5 if count % 256 == 1 => smart_log_task(low), // SMART READ LOG
+        0xD5 => smart_read_task(low, (count % 256) as u8), // SMART READ LOG
+        0xD6 => smart_write_task(low, (count % 256) as u8), // SMART WRITE LOG
         0xD8 => Task::Change(Change::Smart(true)), // SMART ENABLE OPERATIONS
         0xD9 => Task::Change(Change::Smart(false)), // SMART DISABLE OPERATIONS
         0xDA => Task::SmartStatus, // SMART RETURN STATUS
@@ -250,10 +344,12 @@ fn task_by(code: u8, h2d: &H2d) -> Task
         0x34 => Task::Write(long_span(h2d), Protocol::Pio), // WRITE SECTOR(S) EXT
         0x35 => Task::Write(long_span(h2d), Protocol::Dma), // WRITE DMA EXT
         0x3D => Task::Write(long_span(h2d), Protocol::Dma), // WRITE DMA FUA EXT
+        0x3F => write_log_task(h2d, Protocol::Pio), // WRITE LOG EXT
         0x40 => Task::Verify(short_span(h2d)), // READ VERIFY SECTOR(S)
         0x42 => Task::Verify(long_span(h2d)), // READ VERIFY SECTOR(S) EXT
         0x45 => mark_task(h2d), // WRITE UNCORRECTABLE EXT
         0x47 => log_task(h2d, Protocol::Dma), // READ LOG DMA EXT
+        0x57 => write_log_task(h2d, Protocol::Dma), // WRITE LOG DMA EXT
         0x90 => Task::Diagnose, // EXECUTE DEVICE DIAGNOSTIC
         0xA1 => Task::Packet, // IDENTIFY PACKET DEVICE
         0xC8 => Task::Read(short_span(h2d), Protocol::Dma), // READ DMA

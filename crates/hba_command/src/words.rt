@@ -2,7 +2,7 @@
 
 ghost use Rattle.std.specs.Prelude.{◌≡◌, ◌+◌, ◌*◌, ◌<◌, ◌≤◌, length};
 ghost use Rattle.ncq_core.specs.Log.{checksum};
-ghost use Rattle.hba_command.specs.Words.{text_word, with_checksum, with_text, with_word};
+ghost use Rattle.hba_command.specs.Words.{text_word, with_checksum, with_text, with_word, with_words};
 
 /// Puts a word into a page, its low byte first.
 pub(crate) fn put_word(page: &mut [u8; 512], number: usize, word: u16)
@@ -10,6 +10,17 @@ pub(crate) fn put_word(page: &mut [u8; 512], number: usize, word: u16)
     ensures { page.new ≡ with_word number word page.old }
 {
     page[2 * number..2 * number + 2].copy_from_slice(&word.to_le_bytes());
+}
+
+/// Puts the same value into so many words of a page, from one on.
+#[tactic(auto, unfolding(crate::specs::Words::with_words))]
+pub(crate) fn put_words(page: &mut [u8; 512], first: usize, value: u16, count: usize)
+    requires { first + count ≤ 256 }
+    ensures { page.new ≡ with_words first value count page.old }
+{
+    for index in 0..count {
+        put_word(page, first + index, value);
+    }
 }
 
 /// A word of a text, of which the first character is the high byte.

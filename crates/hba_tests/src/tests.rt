@@ -8,6 +8,7 @@ mod edk2;
 mod fatal;
 mod grub;
 mod guest;
+mod host_logs;
 mod life;
 mod linux;
 mod linux_error;

@@ -6,7 +6,8 @@ ghost use Rattle.ahci_hba.specs.Stepping.{fault_if, is_answered, is_answered_at,
 ghost use Rattle.ahci_port.specs.{Faults.{plain_refusal}, PortView.{sectors_in}, Steps.{LacksRoom}};
 ghost use Rattle.ahci_hba.specs.Failing.{concluded, moves_some};
 ghost use Rattle.ahci_hba.specs.Keeping.{device_ended, keeping};
-ghost use Rattle.ahci_hba.specs.Executing.{Flushes, Identifies, IsExecuted, MayLack, MayLackAt, Performs, aborted, changed_fis, first_missing, found_all, is_aborted, is_alone_fetched, native_max, paged, reads_error_log, replied, reply_fis, signed, smart_fis, stopped, stops_at, verified};
+ghost use Rattle.ahci_hba.specs.Delivering.{aborted};
+ghost use Rattle.ahci_hba.specs.Executing.{Flushes, Identifies, IsExecuted, MayLack, MayLackAt, Performs, changed_fis, first_missing, found_all, is_aborted, is_alone_fetched, native_max, paged, reads_error_log, replied, reply_fis, signed, smart_fis, stopped, stops_at, verified};
 
 use crate::command::Command;
 use crate::fault::HbaFault;
@@ -168,7 +169,7 @@ impl<A: Allocator, S: SectorStore> Hba<A, S> {
             Action::Page(Page::Identify, _) | Action::Flush(_) => {
                 self.is_aborted(action) || self.port.plain_fault().is_none()
             }
-            Action::Page(Page::Log(Log::Pages(_, _)) | Page::Disk(_), _) => true,
+            Action::Page(Page::Log(Log::Pages(_, _) | Log::Host(_)) | Page::Disk(_), _) => true,
             Action::Page(Page::Log(Log::QueuedError), _) => {
                 self.is_queueing() || !self.port.halted()
             }
@@ -318,10 +319,7 @@ impl<A: Allocator + Copy, S: SectorStore> Hba<A, S> {
             Action::Page(Page::Disk(page), protocol) => {
                 self.read_disk_page(slot, *page, *protocol)
             }
-            Action::Store(store, protocol) => {
-                self.store(slot, store, *protocol);
-                Ok(())
-            }
+            Action::Store(store, protocol) => self.store(slot, store, *protocol),
             Action::Flush(_) => self.flush(slot),
             Action::Reply(reply) => {
                 self.reply(slot, reply);
@@ -349,7 +347,7 @@ impl<A: Allocator + Copy, S: SectorStore> Hba<A, S> {
     /// sent any more, and each other command is aborted until log 10h is read or a reset comes (ACS-3, "Native Command Queuing").
     ///
     /// # Errors
-    /// `NotReady` exactly if `may_execute` is false; else `OutOfMemory` if a page, a flush or a read's sectors want memory and an allocation failed,
+    /// `NotReady` exactly if `may_execute` is false; else `OutOfMemory` if a page, a log that is written, a flush or a read's sectors want memory and an allocation failed,
     /// and it can be tried again. Nothing has changed.
     pub fn execute(&mut self, slot: Slot) -> Result<(), HbaFault>
         ensures ready { OnOk result (may_execute self.old slot ≡ true) }

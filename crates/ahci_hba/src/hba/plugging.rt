@@ -7,7 +7,7 @@ ghost use Rattle.ahci_hba.specs.Plugging.{other_device, other_plugged, plug_refu
 use crate::fault::PlugFault;
 use crate::hba::{Hba, SLOTS};
 use ahci_port::{Journal, Port, ResumeFault};
-use hba_command::{Device, Identity, Uncorrectable, named, with_cache};
+use hba_command::{Device, HostLogs, Identity, Uncorrectable, named, with_cache};
 use sector_store::SectorStore;
 use std::alloc::Allocator;
 
@@ -53,8 +53,8 @@ impl<A: Allocator, S: SectorStore> Hba<A, S> {
 
 impl<A: Allocator + Copy, S: SectorStore + Drop> Hba<A, S> {
     /// Another disk is plugged in where one was pulled out: one over this store, with this name and queue depth. It is as new: its settings, logs, buffer and
-    /// counters are those of a disk that has never been used, no sector is marked uncorrectable, it is Active, and it has a volatile write cache if the one that was pulled out had one. It makes
-    /// itself known as by `plug`. No command of the other one is left, so none reaches it. The store keeps its sectors as they are now.
+    /// counters are those of a disk that has never been used, no sector is marked uncorrectable, no page of the host's logs is written, it is Active, and it has a volatile write cache if the one
+    /// that was pulled out had one. It makes itself known as by `plug`. No command of the other one is left, so none reaches it. The store keeps its sectors as they are now.
     ///
     /// The journal of the disk that was pulled out is the answer, with all that `unplug` has not handed out, and its store is dropped. The journal of the new one
     /// begins with the number that comes next.
@@ -111,6 +111,7 @@ impl<A: Allocator + Copy, S: SectorStore + Drop> Hba<A, S> {
         self.depth = depth;
         self.keep(device);
         self.uncorrectable = Uncorrectable::new();
+        self.logs = HostLogs::new(self.alloc);
         self.wake();
         self.empty();
         self.registers.plug();

@@ -1,10 +1,11 @@
-//! What the device does with data that are no sectors (ACS-3, "WRITE BUFFER", "WRITE BUFFER DMA" and "DATA SET MANAGEMENT").
+//! What the device does with data that are no sectors (ACS-3, "WRITE BUFFER", "WRITE BUFFER DMA", "DATA SET MANAGEMENT", "WRITE LOG EXT" and "SMART WRITE LOG").
 
-ghost use Rattle.std.specs.Prelude.{◌≡◌, ◌≤◌, None, slice_set};
+ghost use Rattle.std.specs.Prelude.{◌≡◌, ◌≤◌, true, None, IfErr, OnErr, OnOk, slice_set};
 ghost use Rattle.ahci_hba.specs.Queueing.{command_at, list_in};
-ghost use Rattle.ahci_hba.specs.Storing.{content_in, store_fis, stored, taken_by};
+ghost use Rattle.ahci_hba.specs.Storing.{content_in, kept_at_once, store_fis, stored, taken_by, writes_log};
 
 use crate::command::Command;
+use crate::fault::HbaFault;
 use crate::hba::Hba;
 use crate::hba::delivering::{d2h_fis, done};
 use hba_command::{PrdEntry, Protocol, Store, after_store, blocks_of, leaves_disk};
@@ -20,7 +21,7 @@ impl<A: Allocator, S: SectorStore> Hba<A, S> {
         ensures { result ≡ store_fis self.now.port store.now bytes.now }
     {
         match store {
-            Store::Buffer => done(),
+            Store::Buffer | Store::Log(_) => done(),
             Store::Trim(_) => if leaves_disk(self.port.sectors(), bytes) {
                 d2h_fis(0x41, 0x14, 0, 0) // IDNF and ABRT
             } else {
@@ -70,14 +71,34 @@ impl<A: Allocator + Copy, S: SectorStore> Hba<A, S> {
         }
     }
 
-    /// The device takes the data of the command of a slot.
-    pub(super) fn store(&mut self, slot: Slot, store: &Store, protocol: Protocol)
-        ensures { self.new ≡ stored self.old slot store.now protocol (list_in (command_at self.old slot)) (content_in (command_at self.old slot)) }
+    /// The device takes the data of the command of a slot, and keeps them at once.
+    fn keep_at_once(&mut self, slot: Slot, store: &Store, protocol: Protocol)
+        ensures { self.new ≡ kept_at_once self.old slot store.now protocol (list_in (command_at self.old slot)) (content_in (command_at self.old slot)) }
     {
         let (list, bytes) = self.take_content(slot);
         let fis = self.store_fis(store, &bytes);
         let device = after_store(store, &self.device, &bytes);
         self.keep(device);
         self.take_by(slot, protocol, list, blocks_of(store), fis);
+    }
+
+    /// The device takes the data of the command of a slot.
+    pub(super) fn store(
+        &mut self,
+        slot: Slot,
+        store: &Store,
+        protocol: Protocol,
+    ) -> Result<(), HbaFault>
+        ensures ok { OnOk result (self.new ≡ stored self.old slot store.now protocol (list_in (command_at self.old slot)) (content_in (command_at self.old slot))) }
+        ensures err { IfErr result (λ e. (e ≡ HbaFault.OutOfMemory) × (self.new ≡ self.old)) }
+        ensures lacking { OnErr result (writes_log self.old.device store.now ≡ true) }
+    {
+        match store {
+            Store::Log(pages) => self.write_log(slot, pages, protocol),
+            Store::Buffer | Store::Trim(_) => {
+                self.keep_at_once(slot, store, protocol);
+                Ok(())
+            }
+        }
     }
 }

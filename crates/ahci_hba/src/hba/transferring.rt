@@ -91,12 +91,17 @@ impl<A: Allocator + Copy, S: SectorStore> Hba<A, S> {
         self.block(posting, transfer);
     }
 
-    /// The end of a transfer, whose blocks are done.
+    /// The end of a transfer, whose blocks are done. If it writes a log of the host's, the log is written now.
     fn finish(&mut self, transfer: Transfer<A>)
         ensures { self.new ≡ finishing self.old transfer transfer.finish }
     {
         match transfer.finish() {
-            Some(fis) => self.close(transfer.slot(), transfer.moved(), false, fis),
+            Some(fis) => {
+                let slot = transfer.slot();
+                let moved = transfer.moved();
+                self.log_behind(transfer.into_logs());
+                self.close(slot, moved, false, fis);
+            }
             None => self.turn_to(Work::Idle),
         }
     }

@@ -13,7 +13,7 @@ use std::test::Fail;
 type Answered = ([u32; 4], u8, u8, u8, u8);
 
 /// Commands to a disk of 8 sectors, by their titles. None of them moves data.
-static ANSWERS: [(&str, Answered); 48] = [
+static ANSWERS: [(&str, Answered); 60] = [
     ("FLUSH CACHE", ([0x2780_E700, 0, 0, 0], 0x40, 0, 0, 0)),
     (
         "FLUSH CACHE EXT",
@@ -170,6 +170,60 @@ static ANSWERS: [(&str, Answered); 48] = [
     (
         "READ LOG EXT of page 07h of log 30h",
         ([0x2780_2F00, 0x3007_0000, 0, 0x0100_0000], 0x41, 4, 0, 0),
+    ),
+    (
+        "READ LOG EXT of page 10h of log 80h",
+        ([0x2780_2F00, 0x8010_0000, 0, 0x0100_0000], 0x41, 4, 0, 0),
+    ),
+    (
+        "WRITE LOG EXT of log 10h",
+        ([0x2780_3F00, 0x1000_0000, 0, 0x0100_0000], 0x41, 4, 0, 0),
+    ),
+    (
+        "WRITE LOG EXT of log 7Fh",
+        ([0x2780_3F00, 0x7F00_0000, 0, 0x0100_0000], 0x41, 4, 0, 0),
+    ),
+    (
+        "WRITE LOG EXT of no page",
+        ([0x2780_3F00, 0x8000_0000, 0, 0], 0x41, 4, 0, 0),
+    ),
+    (
+        "WRITE LOG EXT of pages 0Fh and 10h",
+        ([0x2780_3F00, 0x800F_0000, 0, 0x0200_0000], 0x41, 4, 0, 0),
+    ),
+    (
+        "WRITE LOG EXT of page 100h",
+        (
+            [0x2780_3F00, 0x8000_0000, 0x0001_0000, 0x0100_0000],
+            0x41,
+            4,
+            0,
+            0,
+        ),
+    ),
+    (
+        "WRITE LOG EXT of 256 pages",
+        ([0x2780_3F00, 0x8000_0000, 0, 0x0001_0000], 0x41, 4, 0, 0),
+    ),
+    (
+        "WRITE LOG DMA EXT of log A0h",
+        ([0x2780_5700, 0xA000_0000, 0, 0x0100_0000], 0x41, 4, 0, 0),
+    ),
+    (
+        "SMART WRITE LOG of log 06h",
+        ([0x2780_B0D6, 0x064F_C200, 0, 0x0100_0000], 0x41, 4, 0, 0),
+    ),
+    (
+        "SMART WRITE LOG of 17 pages",
+        ([0x2780_B0D6, 0x804F_C200, 0, 0x1100_0000], 0x41, 4, 0, 0),
+    ),
+    (
+        "SMART WRITE LOG without its signature",
+        ([0x2780_B0D6, 0x804F_C300, 0, 0x0100_0000], 0x41, 4, 0, 0),
+    ),
+    (
+        "SMART READ LOG of no page of log 80h",
+        ([0x2780_B0D5, 0x804F_C200, 0, 0], 0x41, 4, 0, 0),
     ),
     (
         "READ LOG EXT of page 0100h of log 30h",

@@ -206,6 +206,51 @@ const ALL_LOGGED: &[Step] = &[
     (Driver(Has(DATA, &[1, 0, 0, 0, 0, 0, 0, 0, 7, 0, 1, 2])), 0),
 ];
 
+/// A page of a log of the host's is written by PIO: the list and the bytes of the command, and the pages that are written. Then it is read.
+const HOST_LOG: &[Step] = &[
+    (Driver(Fills(DATA, 512, 0xBB)), 0),
+    (
+        Driver(Lays(
+            0,
+            ONE,
+            TABLE,
+            [0x2780_3F00, 0x8003_0000, 0, 0x0100_0000],
+            SECTOR,
+        )),
+        0,
+    ),
+    (Write(PX_CI, 1), 0),
+    (Fetch(0), 0),
+    (Supply, 0),
+    (Supply, 2),
+    (Supply, 0),
+    (Supply, 0),
+    (Execute(0), 1),
+    (Deliver(0), 0),
+    (Settle, 0),
+    (Deliver(0), 0),
+    (Settle, 0),
+    (Driver(Fills(DATA, 512, 0)), 0),
+    (
+        Driver(Lays(
+            0,
+            ONE,
+            TABLE,
+            [0x2780_4700, 0x8003_0000, 0, 0x0100_0000],
+            SECTOR,
+        )),
+        0,
+    ),
+    (Write(PX_CI, 1), 0),
+    (Fetch(0), 0),
+    (Supply, 0),
+    (Supply, 1),
+    (Supply, 0),
+    (Execute(0), 1),
+    (Settle, 0),
+    (Driver(HasAll(DATA, 512, 0xBB)), 0),
+];
+
 /// Commands that are dropped: by ST, by the link, by a software reset, and by the HBA's.
 const TAKEN: &[Step] = &[
     (Driver(Lays(1, ONE, OTHER, READ, SECTOR)), 0),
@@ -268,7 +313,7 @@ const SOFTWARE_RESET: &[Step] = &[
 
 const HBA_RESET: &[Step] = &[(Write(GHC, 0x8000_0001), 0)];
 
-pub static LIFE: [&[Step]; 21] = [
+pub static LIFE: [&[Step]; 22] = [
     STARTED,
     IDENTIFIED,
     WRITTEN,
@@ -280,6 +325,7 @@ pub static LIFE: [&[Step]; 21] = [
     RECOVERED,
     LOGGED,
     ALL_LOGGED,
+    HOST_LOG,
     TAKEN,
     STOPPED,
     TAKEN,

@@ -7,7 +7,14 @@ use crate::tests::registers::{PX_CI, PX_IS, PX_TFD};
 use crate::tests::setting::{DATA, IDENTIFY, LIST, MEMORY, ONE, RECEIVED, SECTOR, START, TABLE};
 use std::test::Fail;
 
-/// The directory, by PIO and by DMA: logs 03h, 07h, 10h and 11h of one page, log 04h of two, log 30h of seven.
+/// Logs 80h to 9Fh, which are the host's, of 16 pages each.
+const HOSTS: &[u8] = &[
+    16, 0, 16, 0, 16, 0, 16, 0, 16, 0, 16, 0, 16, 0, 16, 0, 16, 0, 16, 0, 16, 0, 16, 0, 16, 0, 16,
+    0, 16, 0, 16, 0, 16, 0, 16, 0, 16, 0, 16, 0, 16, 0, 16, 0, 16, 0, 16, 0, 16, 0, 16, 0, 16, 0,
+    16, 0, 16, 0, 16, 0, 16, 0, 16, 0,
+];
+
+/// The directory, by PIO and by DMA: logs 03h, 07h, 10h and 11h of one page, log 04h of two, log 30h of seven, logs 80h to 9Fh of 16.
 const DIRECTORY: &[Row] = &[
     Lays(0, ONE, TABLE, [0x2780_2F00, 0, 0, 0x0100_0000], SECTOR),
     Writes(PX_CI, 1),
@@ -18,7 +25,9 @@ const DIRECTORY: &[Row] = &[
     Has(DATA + 0x20, &[1, 0, 1, 0]),
     HasAll(DATA + 0x24, 0x3C, 0),
     Has(DATA + 0x60, &[7, 0]),
-    HasAll(DATA + 0x62, 512 - 0x62, 0),
+    HasAll(DATA + 0x62, 0x9E, 0),
+    Has(DATA + 0x100, HOSTS),
+    HasAll(DATA + 0x140, 0xC0, 0),
     Fills(DATA, 512, 0xEE),
     Writes(PX_IS, 0xFFFF_FFFF),
     Lays(0, ONE, TABLE, [0x2780_4700, 0, 0, 0x0100_0000], SECTOR),
