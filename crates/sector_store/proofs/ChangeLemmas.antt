@@ -247,13 +247,13 @@ shows_touched below number old new changes is = record {
 }
 
 -- the list is the same once a page is zeros
-pub touched_zeroed : (number : ℕ) (old new : ℕ → Option Layers) → ChangesAt number old new → layers_of (new number) ≡ record (layers_of (old number)) { upper = Some zero_page; held = false }
-    → (q : ℕ) → is_touched new q ≡ is_touched old q
-touched_zeroed number old new changes is = changes-same (λ (l : Layers). l.touched) number old new changes (ap (λ (l : Layers). l.touched) is)
+pub touched_zeroed : (number : ℕ) (old new : ℕ → Option Layers) → ChangesAt number old new → is_touched old number ≡ true
+    → layers_of (new number) ≡ record (layers_of (old number)) { upper = Some zero_page; held = false; touched = true } → (q : ℕ) → is_touched new q ≡ is_touched old q
+touched_zeroed number old new changes was is = changes-same (λ (l : Layers). l.touched) number old new changes (ap (λ (l : Layers). l.touched) is ∙ sym was)
 
 -- a page was put over one that shows the same
 pub shows_put : (below : ℕ → List ℕ) (number : ℕ) (page : List ℕ) (old new : ℕ → Option Layers) → ChangesAt number old new
-    → layers_of (new number) ≡ record (layers_of (old number)) { upper = Some page; held = true } → IsPageOf (sector_now below old) number page → ShowSame below old new
+    → layers_of (new number) ≡ record (layers_of (old number)) { upper = Some page; held = true; touched = true } → IsPageOf (sector_now below old) number page → ShowSame below old new
 shows_put below number page old new changes is eight = record {
   now = λ s. elim (cases_eq (s / 8) number) [
     | inl same ↦ here s same
@@ -264,7 +264,10 @@ shows_put below number page old new changes is eight = record {
     | inl same ↦ ap (λ i. is_held new i) same ∙ ap (λ (l : Layers). l.held) is
     | inr other ↦ ap (λ o. (layers_of o).held) (changes.others q other) ∙ was
   ];
-  listed = λ q was. changes-same (λ (l : Layers). l.touched) number old new changes (ap (λ (l : Layers). l.touched) is) q ∙ was;
+  listed = λ q was. elim (cases_eq q number) [
+    | inl same ↦ ap (λ i. is_touched new i) same ∙ ap (λ (l : Layers). l.touched) is
+    | inr other ↦ ap (λ o. (layers_of o).touched) (changes.others q other) ∙ was
+  ];
 }
   where
     here : (s : ℕ) → s / 8 ≡ number → sector_now below new s ≡ sector_now below old s
@@ -282,7 +285,7 @@ pub kept_empty : (below : ℕ → List ℕ) (slots : ℕ → Option Layers) → 
 kept_empty below slots empty s = ap (λ (l : Layers). sector_over l.lower (below s) s) (empty (s / 8))
 
 -- every page is whole once one was put
-pub whole_put : (number : ℕ) (page : List ℕ) (old new : ℕ → Option Layers) → ChangesAt number old new → layers_of (new number) ≡ record (layers_of (old number)) { upper = Some page; held = true }
+pub whole_put : (number : ℕ) (page : List ℕ) (old new : ℕ → Option Layers) → ChangesAt number old new → layers_of (new number) ≡ record (layers_of (old number)) { upper = Some page; held = true; touched = true }
     → length page ≡ 4096 → HasWholePages old → HasWholePages new
 whole_put number page old new changes is len whole =
     whole_changed number old new changes (λ p there. up p there) (λ p there. whole.lower number p (ap (λ (l : Layers). l.lower) (sym is) ∙ there)) whole
@@ -291,7 +294,7 @@ whole_put number page old new changes is len whole =
     up p there = sym (ap (λ u. length (page_bytes u)) (ap (λ (l : Layers). l.upper) (sym is) ∙ there)) ∙ len
 
 -- every page is whole once one is zeros
-pub whole_zeroed : (number : ℕ) (old new : ℕ → Option Layers) → ChangesAt number old new → layers_of (new number) ≡ record (layers_of (old number)) { upper = Some zero_page; held = false }
+pub whole_zeroed : (number : ℕ) (old new : ℕ → Option Layers) → ChangesAt number old new → layers_of (new number) ≡ record (layers_of (old number)) { upper = Some zero_page; held = false; touched = true }
     → HasWholePages old → HasWholePages new
 whole_zeroed number old new changes is whole =
     whole_changed number old new changes (λ p there. up p there) (λ p there. whole.lower number p (ap (λ (l : Layers). l.lower) (sym is) ∙ there)) whole

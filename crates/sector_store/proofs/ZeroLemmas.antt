@@ -6,7 +6,7 @@ use borrow.Rule.Slice.PartMut.{put_mid}
 use Rattle.ncq_journal.specs.Image.{sector_at}
 use Rattle.ncq_journal.proofs.ImageLemmas.{sector_at-put_mid}
 use Rattle.sector_store.specs.Blank.{IsBlank, AreClearable, AreMarkable, IsCleared}
-use Rattle.sector_store.specs.Layers.{Layers, page_now, zero_page}
+use Rattle.sector_store.specs.Layers.{Layers, page_now, zero_page, length-zero_page}
 use Rattle.sector_store.specs.Slots.{layers_of}
 use Rattle.sector_store.specs.Shown.{sector_over, sector_now, joined, is_held, is_touched, is_writable, ChangesAt, IsWrittenAt, ShowSame}
 use Rattle.sector_store.specs.Zeroed.{zero_sector, is_within, IsZeroed}
@@ -23,8 +23,8 @@ pub sector_at-zero_page : (place : ℕ) → place < 8 → sector_at zero_page pl
 unfolding zero_page
 sector_at-zero_page place below = zeros_at 4096 place (omega arith)
 
-pub zeros_are_whole : length {A = ℕ} (replicate 4096 0) ≡ 4096
-zeros_are_whole = length-replicate {A = ℕ} 4096 0
+pub zeros_are_whole : length zero_page ≡ 4096
+zeros_are_whole = length-zero_page
 
 -- which sectors are within a range
 pub within_in : (lba n s : ℕ) → lba ≤ s → s < lba + n → is_within lba n s ≡ true
@@ -239,7 +239,7 @@ cleared_unlisted below number slots free markable =
 
 -- a page has a mark
 pub cleared_page : (below : ℕ → List ℕ) (number : ℕ) (old new : ℕ → Option Layers) → ChangesAt number old new
-    → layers_of (new number) ≡ record (layers_of (old number)) { upper = Some zero_page; held = false } → IsCleared below (is_within (8 * number) 8) old new
+    → layers_of (new number) ≡ record (layers_of (old number)) { upper = Some zero_page; held = false; touched = true } → IsCleared below (is_within (8 * number) 8) old new
 cleared_page below number old new changes is = record {
   now = λ s. elim (cases_eq (s / 8) number) [
     | inl same ↦ inside s same

@@ -11,15 +11,11 @@ pub length-zero_page : length zero_page ≡ 4096
 unfolding zero_page
 length-zero_page = length-replicate {A = ℕ} 4096 0
 
--- what one layer has: a page, as the list of its bytes, and whether these are in memory; those of a page of zeros need not be
+-- what one layer has: a page, as the list of its bytes; whether these are in memory, since those of a page of zeros need not be; whether the number is in the list
 pub record Cover : Type 0 where
   pub page : Option (List ℕ)
   pub held : Bool
-
--- a mark for a page of zeros, if there is one
-abbrev pub marked : Bool → Option (List ℕ)
-marked false = None
-marked true = Some zero_page
+  pub listed : Bool
 
 -- the page of the upper layer and that of the lower one; whether the upper one is in memory, and whether the number is in the list of touched pages
 pub record Layers : Type 0 where

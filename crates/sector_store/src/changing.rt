@@ -28,7 +28,7 @@ pub fn touch<A: Allocator>(table: &mut Table<A>, number: u32)
 pub fn put<A: Allocator>(table: &mut Table<A>, number: u32, page: Page<A>)
     requires { is_some (slot_at table.old number) ≡ true }
     ensures others { ChangesAt number (slot_at table.old) (slot_at table.new) }
-    ensures layers { layers_of (slot_at table.new number) ≡ record (layers_of (slot_at table.old number)) { upper = Some page; held = true } }
+    ensures layers { layers_of (slot_at table.new number) ≡ record (layers_of (slot_at table.old number)) { upper = Some page; held = true; touched = true } }
     ensures span { table_span table.new ≡ table_span table.old }
 {
     let mut slot = table.exchange(number, Slot::empty());
@@ -41,7 +41,7 @@ pub fn put<A: Allocator>(table: &mut Table<A>, number: u32, page: Page<A>)
 pub fn zero<A: Allocator>(table: &mut Table<A>, number: u32)
     requires { is_some (slot_at table.old number) ≡ true }
     ensures others { ChangesAt number (slot_at table.old) (slot_at table.new) }
-    ensures layers { layers_of (slot_at table.new number) ≡ record (layers_of (slot_at table.old number)) { upper = Some zero_page; held = false } }
+    ensures layers { layers_of (slot_at table.new number) ≡ record (layers_of (slot_at table.old number)) { upper = Some zero_page; held = false; touched = true } }
     ensures span { table_span table.new ≡ table_span table.old }
 {
     let mut slot = table.exchange(number, Slot::empty());

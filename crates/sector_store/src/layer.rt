@@ -8,66 +8,80 @@ use crate::page::{PAGE, Page};
 use std::alloc::Allocator;
 use std::marker::Model;
 
-/// What a page of zeros has that takes no memory.
+/// A page of zeros.
 static ZEROS: [u8; PAGE] = [0; PAGE];
 
-/// A page, or a mark that it is zeros, or nothing. Contracts see its bytes, and whether they are in memory.
+/// The bytes of a page of zeros, which takes no memory.
+#[tactic(auto, unfolding(crate::specs::Layers::zero_page))]
+fn zero_bytes() -> &'static [u8]
+    ensures { result.now ≡ zero_page }
+{
+    ZEROS.as_slice()
+}
+
+/// What a layer can have. In the upper one, all but nothing says that the number is in the list of touched pages.
+#[derive(Drop)]
+enum Content<A: Allocator> {
+    Empty,
+    Listed,
+    Zeros,
+    Page(Page<A>),
+}
+
+/// A page, or a mark that it is zeros, or none. Contracts see its bytes, whether they are in memory, and whether the number is in the list.
 #[derive(Drop)]
 pub struct Layer<A: Allocator> {
-    page: Option<Page<A>>,
-    zeros: bool,
+    content: Content<A>,
 }
 
 impl<A: Allocator> Model for Layer<A> {
-    ghost use Rattle.std.specs.Prelude.{is_some};
-    ghost use Rattle.sector_store.specs.Layers.{Cover, marked, page_or};
+    ghost use Rattle.std.specs.Prelude.{true, false, None, Some};
+    ghost use Rattle.sector_store.specs.Layers.{Cover, zero_page};
+    ghost use Rattle.sector_store.specs.declared.layer.Content.TheVariants as the;
 
     ghost Value = { Cover };
 
-    ghost view = { λ l. record { page = page_or l.page (marked l.zeros); held = is_some l.page } };
+    ghost view = { λ l. elim l.content [ the.Empty ↦ record { page = None; held = false; listed = false } | the.Listed ↦ record { page = None; held = false; listed = true } | the.Zeros ↦ record { page = Some zero_page; held = false; listed = true } | the.Page p ↦ record { page = Some p; held = true; listed = true } ] };
 }
 
 impl<A: Allocator> Layer<A> {
     /// Nothing.
     pub fn empty() -> Self
-        ensures { result ≡ record { page = None; held = false } }
+        ensures { result ≡ record { page = None; held = false; listed = false } }
     {
         Layer {
-            page: None,
-            zeros: false,
+            content: Content::Empty,
         }
     }
 
     /// A page of zeros, which takes no memory.
     pub fn zeros() -> Self
-        ensures { result ≡ record { page = Some zero_page; held = false } }
+        ensures { result ≡ record { page = Some zero_page; held = false; listed = true } }
     {
         Layer {
-            page: None,
-            zeros: true,
+            content: Content::Zeros,
         }
     }
 
     /// A page in memory.
     pub fn of(page: Page<A>) -> Self
-        ensures { result ≡ record { page = Some page; held = true } }
+        ensures { result ≡ record { page = Some page; held = true; listed = true } }
     {
         Layer {
-            page: Some(page),
-            zeros: false,
+            content: Content::Page(page),
         }
     }
 
     /// The bytes of the page, if there is one.
-    #[tactic(auto, using(crate::proofs::ZeroLemmas::zeros_are_whole), unfolding(crate::specs::Layers::zero_page))]
+    #[tactic(auto, using(crate::proofs::ZeroLemmas::zeros_are_whole))]
     pub fn bytes(&self) -> Option<&[u8]>
         ensures bytes { option_copied result ≡ self.now.page }
         ensures len { IfSome (option_copied result) (λ page. length page ≡ 4096) }
     {
-        match &self.page {
-            Some(page) => Some(page.bytes()),
-            None if self.zeros => Some(ZEROS.as_slice()),
-            None => None,
+        match &self.content {
+            Content::Empty | Content::Listed => None,
+            Content::Zeros => Some(zero_bytes()),
+            Content::Page(page) => Some(page.bytes()),
         }
     }
 
@@ -75,14 +89,39 @@ impl<A: Allocator> Layer<A> {
     pub fn is_held(&self) -> bool
         ensures { result ≡ self.now.held }
     {
-        self.page.is_some()
+        match &self.content {
+            Content::Empty | Content::Listed | Content::Zeros => false,
+            Content::Page(_) => true,
+        }
+    }
+
+    /// Whether the number is in the list.
+    pub fn is_listed(&self) -> bool
+        ensures { result ≡ self.now.listed }
+    {
+        match &self.content {
+            Content::Empty => false,
+            Content::Listed | Content::Zeros | Content::Page(_) => true,
+        }
     }
 
     /// Whether this is the mark of a page of zeros.
     pub fn is_zeros(&self) -> bool
         ensures { result ≡ true → self.now.page ≡ Some zero_page }
     {
-        self.page.is_none() && self.zeros
+        match &self.content {
+            Content::Empty | Content::Listed | Content::Page(_) => false,
+            Content::Zeros => true,
+        }
+    }
+
+    /// Says that the number is in the list.
+    pub fn list(&mut self)
+        ensures { self.new ≡ record self.old { listed = true } }
+    {
+        if let Content::Empty = &self.content {
+            self.content = Content::Listed;
+        }
     }
 
     /// Writes a sector of the page, which is in memory.
@@ -95,8 +134,9 @@ impl<A: Allocator> Layer<A> {
         ensures was { is_some self.old.page ≡ true }
         ensures some { is_some self.new.page ≡ true }
         ensures held { self.new.held ≡ true }
+        ensures listed { self.new.listed ≡ self.old.listed }
     {
-        if let Some(page) = &mut self.page {
+        if let Content::Page(page) = &mut self.content {
             page.write(place, sector);
         }
     }

@@ -15,8 +15,6 @@ use std::mem::replace;
 pub struct Slot<A: Allocator> {
     upper: Layer<A>,
     lower: Layer<A>,
-    /// The number is in the list of those whose upper layer ends with the next keep.
-    touched: bool,
 }
 
 impl<A: Allocator> Model for Slot<A> {
@@ -24,7 +22,7 @@ impl<A: Allocator> Model for Slot<A> {
 
     ghost Value = { Layers };
 
-    ghost view = { λ s. record { upper = s.upper.page; lower = s.lower.page; held = s.upper.held; touched = s.touched } };
+    ghost view = { λ s. record { upper = s.upper.page; lower = s.lower.page; held = s.upper.held; touched = s.upper.listed } };
 }
 
 impl<A: Allocator> Slot<A> {
@@ -35,7 +33,6 @@ impl<A: Allocator> Slot<A> {
         Slot {
             upper: Layer::empty(),
             lower: Layer::empty(),
-            touched: false,
         }
     }
 
@@ -69,7 +66,7 @@ impl<A: Allocator> Slot<A> {
     pub fn is_touched(&self) -> bool
         ensures { result ≡ self.now.touched }
     {
-        self.touched
+        self.upper.is_listed()
     }
 
     /// Whether the page as it is now is known to be zeros by a mark, with no look at its bytes.
@@ -86,19 +83,19 @@ impl<A: Allocator> Slot<A> {
     pub fn touch(&mut self)
         ensures { self.new ≡ record self.old { touched = true } }
     {
-        self.touched = true;
+        self.upper.list();
     }
 
     /// Puts a page into the upper layer.
     pub fn put(&mut self, page: Page<A>)
-        ensures { self.new ≡ record self.old { upper = Some page; held = true } }
+        ensures { self.new ≡ record self.old { upper = Some page; held = true; touched = true } }
     {
         self.upper = Layer::of(page);
     }
 
     /// Makes the page of the upper layer one of zeros, which takes no memory.
     pub fn zero(&mut self)
-        ensures { self.new ≡ record self.old { upper = Some zero_page; held = false } }
+        ensures { self.new ≡ record self.old { upper = Some zero_page; held = false; touched = true } }
     {
         self.upper = Layer::zeros();
     }
@@ -121,7 +118,6 @@ impl<A: Allocator> Slot<A> {
         if upper.bytes().is_some() {
             self.lower = upper;
         }
-        self.touched = false;
     }
 
     /// Drops the page of the upper layer.
@@ -129,6 +125,5 @@ impl<A: Allocator> Slot<A> {
         ensures { self.new ≡ dropped_layers self.old }
     {
         self.upper = Layer::empty();
-        self.touched = false;
     }
 }
