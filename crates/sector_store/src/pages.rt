@@ -53,7 +53,7 @@ impl<B: Base + Drop, A: Allocator + Copy> Pages<B, A> {
 }
 
 impl<B: Base, A: Allocator + Copy> Pages<B, A> {
-    /// The numbers of the pages that were reserved since the last `keep` or `restore`. The sectors of every other page are
+    /// The numbers of the pages that were reserved or became zeros since the last `keep` or `restore`. The sectors of every other page are
     /// those that were kept.
     pub fn touched(&self) -> &[u32]
         ensures { ChangesAmong result.now (⟦<Pages<B, A> as SectorStore>⟧.image self.now) (⟦<Pages<B, A> as SectorStore>⟧.starting self.now) }
