@@ -4,6 +4,7 @@ mod keeping;
 mod reading;
 mod reserving;
 mod writing;
+mod zeroing;
 
 ghost use Rattle.std.specs.Prelude.{◌≡◌, ℕ, ◌*◌, ◌≤◌, true, refl, IfOk};
 ghost use Rattle.sector_store.specs.Slots.{slot_at, table_span};
@@ -52,7 +53,7 @@ impl<B: Base + Drop, A: Allocator + Copy> Pages<B, A> {
 }
 
 impl<B: Base, A: Allocator + Copy> Pages<B, A> {
-    /// The numbers of the pages that were reserved since the last `keep` or `restore`. The sectors of every other page are
+    /// The numbers of the pages that were reserved or became zeros since the last `keep` or `restore`. The sectors of every other page are
     /// those that were kept.
     pub fn touched(&self) -> &[u32]
         ensures { ChangesAmong result.now (⟦<Pages<B, A> as SectorStore>⟧.image self.now) (⟦<Pages<B, A> as SectorStore>⟧.starting self.now) }
@@ -94,6 +95,10 @@ impl<B: Base, A: Allocator + Copy> SectorStore for Pages<B, A> {
 
     fn write(&mut self, lba: u64, bytes: &[u8]) {
         self.write_run(lba, bytes);
+    }
+
+    fn zero(&mut self, lba: u64, sectors: u64) -> Result<(), AllocError> {
+        self.zero_run(lba, sectors)
     }
 
     fn keep(&mut self) {
