@@ -1,15 +1,15 @@
 -- What holds of the slots once one has changed.
-use Rattle.std.proofs.Common.{◌≡◌, ℕ, ◌+◌, ◌*◌, ◌/◌, ◌%◌, true, false, List, [], ◌∷◌, ◌++◌, length, Option, None, Some, ap, sym, ◌∙◌, arith, inl, inr, ◌⊎◌, cond, eqb, refl, subst}
+use Rattle.std.proofs.Common.{◌≡◌, ℕ, ◌+◌, ◌*◌, ◌/◌, ◌%◌, Bool, true, false, List, [], ◌∷◌, ◌++◌, length, Option, None, Some, ap, sym, ◌∙◌, arith, inl, inr, ◌⊎◌, cond, eqb, refl, subst}
 use Rattle.std.proofs.lemmas.Bool.{cases_eq, cond-true, cond-false, eq-eqb, ne_eqb, eqb-true, or_cases, or_left, or_right, true≢false, false_from_ne_true}
 use Rattle.std.specs.Option.{is_some}
 use Rattle.ncq_journal.specs.Image.{sector_at}
-use Rattle.sector_store.specs.Layers.{Layers, page_or, page_now, page_bytes, kept_layers, dropped_layers, IsSlotWritten}
+use Rattle.sector_store.specs.Layers.{Layers, page_or, page_now, page_bytes, kept_layers, dropped_layers, zero_page, length-zero_page, IsSlotWritten}
 use Rattle.sector_store.specs.Slots.{layers_of, HasGrown, IsEmpty, IsExchanged}
 use Rattle.sector_store.proofs.ShownLemmas.{whole_now}
-use Rattle.sector_store.specs.Shown.{sector_over, sector_now, sector_kept, is_written, among, HasWholePages, AreTouched, ChangesAt, IsWrittenAt, ShowSame, IsPageOf}
+use Rattle.sector_store.specs.Shown.{sector_over, sector_now, sector_kept, is_held, is_touched, is_written, among, HasWholePages, AreTouched, ChangesAt, IsWrittenAt, ShowSame, IsPageOf}
 
 -- what one slot's change leaves as it is stays so at every number
-changes-same : {X : Type 0} (F : Layers → X) (number : ℕ) (old new : ℕ → Option Layers) → ChangesAt number old new → F (layers_of (new number)) ≡ F (layers_of (old number))
+pub changes-same : {X : Type 0} (F : Layers → X) (number : ℕ) (old new : ℕ → Option Layers) → ChangesAt number old new → F (layers_of (new number)) ≡ F (layers_of (old number))
     → (q : ℕ) → F (layers_of (new q)) ≡ F (layers_of (old q))
 changes-same F number old new changes here q =
     elim (cases_eq q number) [
@@ -18,7 +18,7 @@ changes-same F number old new changes here q =
     ]
 
 -- a fact of every slot
-changes-all : (P : Layers → Type 0) (number : ℕ) (old new : ℕ → Option Layers) → ChangesAt number old new → P (layers_of (new number)) → ((q : ℕ) → P (layers_of (old q)))
+pub changes-all : (P : Layers → Type 0) (number : ℕ) (old new : ℕ → Option Layers) → ChangesAt number old new → P (layers_of (new number)) → ((q : ℕ) → P (layers_of (old q)))
     → (q : ℕ) → P (layers_of (new q))
 changes-all P number old new changes here all q =
     elim (cases_eq q number) [
@@ -75,24 +75,22 @@ among_cases (x ∷ xs) y q is =
 
 -- a number is taken from the list, and its page from the upper layer
 pub touched_less : (number : ℕ) (rest : List ℕ) (old new : ℕ → Option Layers) → ChangesAt number old new → (layers_of (new number)).upper ≡ None
-    → AreTouched old (rest ++ number ∷ []) → AreTouched new rest
-touched_less number rest old new changes none touched = record {
+    → (layers_of (new number)).touched ≡ false → AreTouched old (rest ++ number ∷ []) → AreTouched new rest
+touched_less number rest old new changes none unlisted touched = record {
   made = λ q is. changes-made number old new changes q (touched.made q (among_left rest number q is));
-  written = λ q is. still q is;
+  written = still (λ (l : Layers). is_some l.upper) (ap is_some none) touched.written;
+  listed = still (λ (l : Layers). l.touched) unlisted touched.listed;
 }
   where
-    still : (q : ℕ) → is_written new q ≡ true → among rest q ≡ true
-    still q is =
+    still : (F : Layers → Bool) → F (layers_of (new number)) ≡ false → ((q : ℕ) → F (layers_of (old q)) ≡ true → among (rest ++ number ∷ []) q ≡ true)
+        → (q : ℕ) → F (layers_of (new q)) ≡ true → among rest q ≡ true
+    still F gone all q is =
         elim (cases_eq q number) [
-          | inl same ↦
-              let gone : is_written new q ≡ false = ap (λ i. is_written new i) same ∙ ap is_some none in
-              absurd (true≢false (sym is ∙ gone))
-          | inr other ↦
-              let before : is_written old q ≡ true = ap (λ o. is_some (layers_of o).upper) (sym (changes.others q other)) ∙ is in
-              elim (among_cases rest number q (touched.written q before)) [
-                | inl left ↦ left
-                | inr last ↦ absurd (other (sym last))
-              ]
+          | inl same ↦ absurd (true≢false (sym is ∙ ap (λ i. F (layers_of (new i))) same ∙ gone))
+          | inr other ↦ elim (among_cases rest number q (all q (ap (λ o. F (layers_of o)) (sym (changes.others q other)) ∙ is))) [
+            | inl left ↦ left
+            | inr last ↦ absurd (other (sym last))
+          ]
         ]
 
 -- a number comes to the list, whose slot is made
@@ -102,16 +100,38 @@ touched_more number touched old new changes are = record {
     | inl before ↦ changes-made number old new changes q (are.made q before)
     | inr last ↦ ap (λ i. is_some (new i)) (sym last) ∙ changes.made
   ];
-  written = λ q is. elim (cases_eq q number) [
-    | inl same ↦ among_last touched number q (sym same)
-    | inr other ↦ among_left touched number q (are.written q (ap (λ o. is_some (layers_of o).upper) (sym (changes.others q other)) ∙ is))
-  ];
+  written = more (λ (l : Layers). is_some l.upper) are.written;
+  listed = more (λ (l : Layers). l.touched) are.listed;
 }
+  where
+    more : (F : Layers → Bool) → ((q : ℕ) → F (layers_of (old q)) ≡ true → among touched q ≡ true) → (q : ℕ) → F (layers_of (new q)) ≡ true
+        → among (touched ++ number ∷ []) q ≡ true
+    more F all q is =
+        elim (cases_eq q number) [
+          | inl same ↦ among_last touched number q (sym same)
+          | inr other ↦ among_left touched number q (all q (ap (λ o. F (layers_of o)) (sym (changes.others q other)) ∙ is))
+        ]
+
+-- a slot has changed whose number is in the list
+pub touched_changed : (number : ℕ) (touched : List ℕ) (old new : ℕ → Option Layers) → ChangesAt number old new → among touched number ≡ true → AreTouched old touched → AreTouched new touched
+touched_changed number touched old new changes there are = record {
+  made = λ q is. changes-made number old new changes q (are.made q is);
+  written = still (λ (l : Layers). is_some l.upper) are.written;
+  listed = still (λ (l : Layers). l.touched) are.listed;
+}
+  where
+    still : (F : Layers → Bool) → ((q : ℕ) → F (layers_of (old q)) ≡ true → among touched q ≡ true) → (q : ℕ) → F (layers_of (new q)) ≡ true → among touched q ≡ true
+    still F all q is =
+        elim (cases_eq q number) [
+          | inl same ↦ ap (among touched) same ∙ there
+          | inr other ↦ all q (ap (λ o. F (layers_of o)) (sym (changes.others q other)) ∙ is)
+        ]
 
 pub touched_grown : (touched : List ℕ) (old new : ℕ → Option Layers) → HasGrown old new → AreTouched old touched → AreTouched new touched
 touched_grown touched old new grown are = record {
   made = λ q is. grown.made q (are.made q is);
   written = λ q is. are.written q (ap (λ (l : Layers). is_some l.upper) (sym (grown.layers q)) ∙ is);
+  listed = λ q is. are.listed q (ap (λ (l : Layers). l.touched) (sym (grown.layers q)) ∙ is);
 }
 
 -- every page is whole after one slot's change that leaves its pages whole
@@ -156,9 +176,9 @@ some_bytes None h = absurd (true≢false (sym h))
 some_bytes (Some p) h = refl
 
 -- one sector was written
-pub written_at : (lba : ℕ) (sector : List ℕ) (old new : ℕ → Option Layers) → ChangesAt (lba / 8) old new → is_written old (lba / 8) ≡ true
+pub written_at : (lba : ℕ) (sector : List ℕ) (old new : ℕ → Option Layers) → ChangesAt (lba / 8) old new
     → IsSlotWritten (lba % 8) sector (layers_of (old (lba / 8))) (layers_of (new (lba / 8))) → IsWrittenAt lba sector old new
-written_at lba sector old new changes was slot = record {
+written_at lba sector old new changes slot = record {
   now = λ below s. elim (cases_eq (s / 8) (lba / 8)) [
     | inl same ↦ here below s same
     | inr other ↦
@@ -167,8 +187,8 @@ written_at lba sector old new changes was slot = record {
   ];
   kept = λ below. kept_dropped below (lba / 8) old new changes slot.lower;
   stay = λ q is. elim (cases_eq q (lba / 8)) [
-    | inl same ↦ ap (λ i. is_written new i) same ∙ slot.some
-    | inr other ↦ ap (λ o. is_some (layers_of o).upper) (changes.others q other) ∙ is
+    | inl same ↦ ap (λ i. is_held new i) same ∙ slot.held
+    | inr other ↦ ap (λ o. (layers_of o).held) (changes.others q other) ∙ is
   ];
 }
   where
@@ -195,13 +215,14 @@ written_at lba sector old new changes was slot = record {
         shows new slot.some below s same
         ∙ slot.page (s % 8)
         ∙ places page s same
-        ∙ ap (cond (eqb s lba) sector) (sym (shows old was below s same))
+        ∙ ap (cond (eqb s lba) sector) (sym (shows old slot.was below s same))
 
 pub shows_grown : (below : ℕ → List ℕ) (old new : ℕ → Option Layers) → HasGrown old new → ShowSame below old new
 shows_grown below old new grown = record {
   now = λ s. ap (λ (l : Layers). sector_over (page_now l) (below s) s) (grown.layers (s / 8));
   kept = λ s. ap (λ (l : Layers). sector_over l.lower (below s) s) (grown.layers (s / 8));
-  stay = λ q is. ap (λ (l : Layers). is_some l.upper) (grown.layers q) ∙ is;
+  stay = λ q is. ap (λ (l : Layers). l.held) (grown.layers q) ∙ is;
+  listed = λ q is. ap (λ (l : Layers). l.touched) (grown.layers q) ∙ is;
 }
 
 pub shows_on : (below : ℕ → List ℕ) (a b c : ℕ → Option Layers) → ShowSame below a b → ShowSame below b c → ShowSame below a c
@@ -209,21 +230,41 @@ shows_on below a b c first then = record {
   now = λ s. then.now s ∙ first.now s;
   kept = λ s. then.kept s ∙ first.kept s;
   stay = λ q is. then.stay q (first.stay q is);
+  listed = λ q is. then.listed q (first.listed q is);
 }
 
+-- a slot says that its number is in the list
+pub shows_touched : (below : ℕ → List ℕ) (number : ℕ) (old new : ℕ → Option Layers) → ChangesAt number old new → layers_of (new number) ≡ record (layers_of (old number)) { touched = true }
+    → ShowSame below old new
+shows_touched below number old new changes is = record {
+  now = λ s. ap (λ o. sector_over o (below s) s) (changes-same page_now number old new changes (ap page_now is) (s / 8));
+  kept = kept_dropped below number old new changes (ap (λ (l : Layers). l.lower) is);
+  stay = λ q was. changes-same (λ (l : Layers). l.held) number old new changes (ap (λ (l : Layers). l.held) is) q ∙ was;
+  listed = λ q was. elim (cases_eq q number) [
+    | inl same ↦ ap (λ i. is_touched new i) same ∙ ap (λ (l : Layers). l.touched) is
+    | inr other ↦ ap (λ o. (layers_of o).touched) (changes.others q other) ∙ was
+  ];
+}
+
+-- the list is the same once a page is zeros
+pub touched_zeroed : (number : ℕ) (old new : ℕ → Option Layers) → ChangesAt number old new → layers_of (new number) ≡ record (layers_of (old number)) { upper = Some zero_page; held = false }
+    → (q : ℕ) → is_touched new q ≡ is_touched old q
+touched_zeroed number old new changes is = changes-same (λ (l : Layers). l.touched) number old new changes (ap (λ (l : Layers). l.touched) is)
+
 -- a page was put over one that shows the same
-pub shows_put : (below : ℕ → List ℕ) (number : ℕ) (page : List ℕ) (old new : ℕ → Option Layers) → ChangesAt number old new → is_written old number ≡ false
-    → layers_of (new number) ≡ record (layers_of (old number)) { upper = Some page } → IsPageOf (sector_kept below old) number page → ShowSame below old new
-shows_put below number page old new changes free is eight = record {
+pub shows_put : (below : ℕ → List ℕ) (number : ℕ) (page : List ℕ) (old new : ℕ → Option Layers) → ChangesAt number old new
+    → layers_of (new number) ≡ record (layers_of (old number)) { upper = Some page; held = true } → IsPageOf (sector_now below old) number page → ShowSame below old new
+shows_put below number page old new changes is eight = record {
   now = λ s. elim (cases_eq (s / 8) number) [
     | inl same ↦ here s same
     | inr other ↦ ap (λ o. sector_over (page_now (layers_of o)) (below s) s) (changes.others (s / 8) other)
   ];
   kept = kept_dropped below number old new changes (ap (λ (l : Layers). l.lower) is);
   stay = λ q was. elim (cases_eq q number) [
-    | inl same ↦ ap (λ i. is_written new i) same ∙ ap (λ (l : Layers). is_some l.upper) is
-    | inr other ↦ ap (λ o. is_some (layers_of o).upper) (changes.others q other) ∙ was
+    | inl same ↦ ap (λ i. is_held new i) same ∙ ap (λ (l : Layers). l.held) is
+    | inr other ↦ ap (λ o. (layers_of o).held) (changes.others q other) ∙ was
   ];
+  listed = λ q was. changes-same (λ (l : Layers). l.touched) number old new changes (ap (λ (l : Layers). l.touched) is) q ∙ was;
 }
   where
     here : (s : ℕ) → s / 8 ≡ number → sector_now below new s ≡ sector_now below old s
@@ -232,10 +273,7 @@ shows_put below number page old new changes free is eight = record {
         ap (λ i. sector_over (page_now (layers_of (new i))) (below s) s) same
         ∙ ap (λ (l : Layers). sector_over (page_now l) (below s) s) is
         ∙ eight (s % 8) (omega arith)
-        ∙ ap (sector_kept below old) number_of
-        ∙ ap (λ i. sector_over (layers_of (old i)).lower (below s) s) same
-        ∙ ap (λ u. sector_over (page_or u (layers_of (old number)).lower) (below s) s) (sym (none_is (layers_of (old number)).upper free))
-        ∙ sym (ap (λ i. sector_over (page_now (layers_of (old i))) (below s) s) same)
+        ∙ ap (sector_now below old) number_of
 
 pub now_empty : (below : ℕ → List ℕ) (slots : ℕ → Option Layers) → IsEmpty slots → (s : ℕ) → sector_now below slots s ≡ below s
 now_empty below slots empty s = ap (λ (l : Layers). sector_over (page_now l) (below s) s) (empty (s / 8))
@@ -244,13 +282,29 @@ pub kept_empty : (below : ℕ → List ℕ) (slots : ℕ → Option Layers) → 
 kept_empty below slots empty s = ap (λ (l : Layers). sector_over l.lower (below s) s) (empty (s / 8))
 
 -- every page is whole once one was put
-pub whole_put : (number : ℕ) (page : List ℕ) (old new : ℕ → Option Layers) → ChangesAt number old new → layers_of (new number) ≡ record (layers_of (old number)) { upper = Some page }
+pub whole_put : (number : ℕ) (page : List ℕ) (old new : ℕ → Option Layers) → ChangesAt number old new → layers_of (new number) ≡ record (layers_of (old number)) { upper = Some page; held = true }
     → length page ≡ 4096 → HasWholePages old → HasWholePages new
 whole_put number page old new changes is len whole =
     whole_changed number old new changes (λ p there. up p there) (λ p there. whole.lower number p (ap (λ (l : Layers). l.lower) (sym is) ∙ there)) whole
   where
     up : (p : List ℕ) → (layers_of (new number)).upper ≡ Some p → length p ≡ 4096
     up p there = sym (ap (λ u. length (page_bytes u)) (ap (λ (l : Layers). l.upper) (sym is) ∙ there)) ∙ len
+
+-- every page is whole once one is zeros
+pub whole_zeroed : (number : ℕ) (old new : ℕ → Option Layers) → ChangesAt number old new → layers_of (new number) ≡ record (layers_of (old number)) { upper = Some zero_page; held = false }
+    → HasWholePages old → HasWholePages new
+whole_zeroed number old new changes is whole =
+    whole_changed number old new changes (λ p there. up p there) (λ p there. whole.lower number p (ap (λ (l : Layers). l.lower) (sym is) ∙ there)) whole
+  where
+    up : (p : List ℕ) → (layers_of (new number)).upper ≡ Some p → length p ≡ 4096
+    up p there = sym (ap (λ u. length (page_bytes u)) (ap (λ (l : Layers). l.upper) (sym is) ∙ there)) ∙ length-zero_page
+
+-- every page is whole once its slot says that its number is in the list
+pub whole_touched : (number : ℕ) (old new : ℕ → Option Layers) → ChangesAt number old new → layers_of (new number) ≡ record (layers_of (old number)) { touched = true }
+    → HasWholePages old → HasWholePages new
+whole_touched number old new changes is whole =
+    whole_changed number old new changes (λ p there. whole.upper number p (ap (λ (l : Layers). l.upper) (sym is) ∙ there))
+    (λ p there. whole.lower number p (ap (λ (l : Layers). l.lower) (sym is) ∙ there)) whole
 
 -- every page is whole once one was kept, or dropped
 pub whole_kept : (number : ℕ) (old new : ℕ → Option Layers) → ChangesAt number old new → layers_of (new number) ≡ kept_layers (layers_of (old number)) → HasWholePages old → HasWholePages new

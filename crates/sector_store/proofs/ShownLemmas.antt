@@ -65,7 +65,7 @@ unfolding joined
 sector_at-joined f n s size l = sector_at-sectors f size n 0 s l ∙ ap f (let e : 0 + s ≡ s = omega arith in e)
 
 -- there are no bytes past the end
-sector_at-past : (xs : List ℕ) (s : ℕ) → length xs ≤ 512 * s → sector_at xs s ≡ []
+pub sector_at-past : (xs : List ℕ) (s : ℕ) → length xs ≤ 512 * s → sector_at xs s ≡ []
 sector_at-past xs s past = ap (take 512) (drop_all (512 * s) xs past)
 
 -- where two images of one size have the same sector

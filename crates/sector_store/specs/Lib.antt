@@ -1,4 +1,6 @@
+pub mod Blank
 pub mod Layers
 pub mod Reserved
 pub mod Shown
 pub mod Slots
+pub mod Zeroed

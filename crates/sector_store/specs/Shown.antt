@@ -1,20 +1,12 @@
 -- The sectors that pages show over what a disk has below them.
-use Rattle.std.specs.Prelude.{◌≡◌, ℕ, ◌+◌, ◌-◌, ◌*◌, ◌/◌, ◌%◌, ◌<◌, ◌==◌, ◌||◌, ◌&&◌, nat_le, nat_lt, if◌then◌else◌, Bool, true, false, List, [], ◌∷◌, length, replicate, Option, None, Some, is_some}
+use Rattle.std.specs.Prelude.{◌≡◌, ℕ, ◌+◌, ◌-◌, ◌*◌, ◌/◌, ◌%◌, ◌<◌, ◌==◌, ◌||◌, ◌&&◌, nat_le, nat_lt, if◌then◌else◌, Bool, true, false, List, [], ◌∷◌, length, Option, None, Some, is_some}
 use Rattle.std.specs.List.{flat_map, range_with_len}
 use Rattle.std.proofs.Common.{ap, ◌∙◌, arith, inl, inr, drop, length-drop, length-take}
 use Rattle.std.proofs.lemmas.Bool.{cases_lt, cond-true, cond-false, lt-ltb, le-ltb}
-use Rattle.std.proofs.lemmas.List.{length-replicate}
 use Rattle.ncq_journal.specs.Image.{sector_at}
 use Rattle.sector_store.specs.Layers.{Layers, page_now}
 use Rattle.sector_store.specs.Slots.{layers_of}
-
--- a sector of zeros
-unfoldable pub zero_sector : List ℕ
-zero_sector = replicate 512 0
-
-pub length-zero_sector : length zero_sector ≡ 512
-unfolding zero_sector
-length-zero_sector = length-replicate {A = ℕ} 512 0
+use Rattle.sector_store.specs.Zeroed.{zero_sector, length-zero_sector}
 
 -- a sector of a buffer, or zeros past its last whole one
 abbrev pub buffer_sector : List ℕ → ℕ → List ℕ
@@ -52,9 +44,17 @@ joined sector count = flat_map sector (range_with_len 0 count)
 abbrev pub is_written : (ℕ → Option Layers) → ℕ → Bool
 is_written slots number = is_some (layers_of (slots number)).upper
 
--- a sector's page is in the upper layer
+-- the page in the upper layer of a slot is in memory
+abbrev pub is_held : (ℕ → Option Layers) → ℕ → Bool
+is_held slots number = (layers_of (slots number)).held
+
+-- a sector's page is in the upper layer, and in memory
 abbrev pub is_writable : (ℕ → Option Layers) → ℕ → Bool
-is_writable slots lba = is_written slots (lba / 8)
+is_writable slots lba = is_held slots (lba / 8)
+
+-- a slot says that its number is in the list of touched pages
+abbrev pub is_touched : (ℕ → Option Layers) → ℕ → Bool
+is_touched slots number = (layers_of (slots number)).touched
 
 -- a number is in a list
 abbrev pub among : List ℕ → ℕ → Bool
@@ -66,10 +66,11 @@ pub record HasWholePages (slots : ℕ → Option Layers) : Type 0 where
   pub upper : (q : ℕ) (page : List ℕ) → (layers_of (slots q)).upper ≡ Some page → length page ≡ 4096
   pub lower : (q : ℕ) (page : List ℕ) → (layers_of (slots q)).lower ≡ Some page → length page ≡ 4096
 
--- the list has each number with a page in its upper layer, and none whose slot isn't made
+-- the list has each number with a page in its upper layer or whose slot says so, and none whose slot isn't made
 pub record AreTouched (slots : ℕ → Option Layers) (touched : List ℕ) : Type 0 where
   pub made : (q : ℕ) → among touched q ≡ true → is_some (slots q) ≡ true
   pub written : (q : ℕ) → is_written slots q ≡ true → among touched q ≡ true
+  pub listed : (q : ℕ) → is_touched slots q ≡ true → among touched q ≡ true
 
 -- each sector that isn't in one of these pages is the one that was kept
 abbrev pub ChangesAmong : List ℕ → List ℕ → List ℕ → Type 0
@@ -80,17 +81,18 @@ pub record ChangesAt (number : ℕ) (old new : ℕ → Option Layers) : Type 0 w
   pub others : (q : ℕ) → (q ≡ number → ⊥) → new q ≡ old q
   pub made : is_some (new number) ≡ true
 
--- one sector has these bytes now, nothing else shows a change, and every page that was in the upper layer still is
+-- one sector has these bytes now, nothing else shows a change, and every page that was held still is
 pub record IsWrittenAt (lba : ℕ) (sector : List ℕ) (old new : ℕ → Option Layers) : Type 0 where
   pub now : (below : ℕ → List ℕ) (s : ℕ) → sector_now below new s ≡ (if s == lba then sector else sector_now below old s)
   pub kept : (below : ℕ → List ℕ) (s : ℕ) → sector_kept below new s ≡ sector_kept below old s
-  pub stay : (q : ℕ) → is_written old q ≡ true → is_written new q ≡ true
+  pub stay : (q : ℕ) → is_held old q ≡ true → is_held new q ≡ true
 
--- the sectors are the same, as they are now and as they were kept, and every page that was in the upper layer still is
+-- the sectors are the same, as they are now and as they were kept, every page that was held still is, and every number that was listed
 pub record ShowSame (below : ℕ → List ℕ) (old new : ℕ → Option Layers) : Type 0 where
   pub now : (s : ℕ) → sector_now below new s ≡ sector_now below old s
   pub kept : (s : ℕ) → sector_kept below new s ≡ sector_kept below old s
-  pub stay : (q : ℕ) → is_written old q ≡ true → is_written new q ≡ true
+  pub stay : (q : ℕ) → is_held old q ≡ true → is_held new q ≡ true
+  pub listed : (q : ℕ) → is_touched old q ≡ true → is_touched new q ≡ true
 
 -- a page has these eight sectors
 abbrev pub IsPageOf : (ℕ → List ℕ) → ℕ → List ℕ → Type 0
@@ -104,7 +106,7 @@ AreRead sector lba out = (i : ℕ) → i < length out / 512 → sector_at out i 
 pub record AreWrittenAt (lba count : ℕ) (bytes : List ℕ) (old new : ℕ → Option Layers) : Type 0 where
   pub now : (below : ℕ → List ℕ) (s : ℕ) → sector_now below new s ≡ (if nat_le lba s && nat_lt s (lba + count) then sector_at bytes (s - lba) else sector_now below old s)
   pub kept : (below : ℕ → List ℕ) (s : ℕ) → sector_kept below new s ≡ sector_kept below old s
-  pub stay : (q : ℕ) → is_written old q ≡ true → is_written new q ≡ true
+  pub stay : (q : ℕ) → is_held old q ≡ true → is_held new q ≡ true
 
 -- the sectors are the same, and those that are kept
 pub record IsKept (old new : ℕ → Option Layers) : Type 0 where

@@ -1,7 +1,8 @@
 //! What a disk has below its pages.
 
-ghost use Rattle.std.specs.Prelude.{◌≡◌, ℕ, List, length};
-ghost use Rattle.sector_store.specs.Shown.{zero_sector, length-zero_sector, buffer_sector, length-buffer_sector};
+ghost use Rattle.std.specs.Prelude.{◌≡◌, ℕ, ◌≤◌, true, List, length};
+ghost use Rattle.sector_store.specs.Shown.{buffer_sector, length-buffer_sector};
+ghost use Rattle.sector_store.specs.Zeroed.{zero_sector, length-zero_sector};
 
 use ncq_journal::read_sectors;
 
@@ -14,6 +15,10 @@ pub trait Base {
     fn read(&self, lba: u64, out: &mut [u8])
         requires { length out.old ≡ 512 }
         ensures { out.new ≡ sector self.now lba };
+
+    /// Whether every sector from this one on is known to be zeros, with no look at its bytes.
+    fn ends_at(&self, lba: u64) -> bool
+        ensures { result ≡ true → (s : ℕ) → lba ≤ s → sector self.now s ≡ zero_sector };
 
     // every sector has 512 bytes
     ghost whole: { (base : Self) (lba : ℕ) → length (sector base lba) ≡ 512 };
@@ -28,9 +33,13 @@ impl Base for Zeros {
 
     ghost whole = { λ base lba. length-zero_sector };
 
-    #[tactic(auto, unfolding(crate::specs::Shown::zero_sector))]
+    #[tactic(auto, unfolding(crate::specs::Zeroed::zero_sector))]
     fn read(&self, _lba: u64, out: &mut [u8]) {
         out.fill(0);
+    }
+
+    fn ends_at(&self, _lba: u64) -> bool {
+        true
     }
 }
 
@@ -54,12 +63,16 @@ impl Base for Buffer<'_> {
 
     ghost whole = { λ base lba. length-buffer_sector base.bytes.now lba };
 
-    #[tactic(auto, unfolding(crate::specs::Shown::zero_sector))]
+    #[tactic(auto, unfolding(crate::specs::Zeroed::zero_sector))]
     fn read(&self, lba: u64, out: &mut [u8]) {
         if lba < (self.bytes.len() / 512) as u64 {
             read_sectors(self.bytes, lba, out);
         } else {
             out.fill(0);
         }
+    }
+
+    fn ends_at(&self, lba: u64) -> bool {
+        lba >= (self.bytes.len() / 512) as u64
     }
 }

@@ -1,25 +1,51 @@
 //! How one slot of a table changes.
 
-ghost use Rattle.std.specs.Prelude.{◌≡◌, ◌<◌, true, Some, length, is_some};
-ghost use Rattle.sector_store.specs.Layers.{IsSlotWritten, kept_layers, dropped_layers};
+ghost use Rattle.std.specs.Prelude.{◌≡◌, ◌<◌, true, false, Some, length, is_some};
+ghost use Rattle.sector_store.specs.Layers.{IsSlotWritten, kept_layers, dropped_layers, zero_page};
 ghost use Rattle.sector_store.specs.Slots.{layers_of, slot_at, table_span};
-ghost use Rattle.sector_store.specs.Shown.{ChangesAt, is_written};
+ghost use Rattle.sector_store.specs.Shown.{ChangesAt, is_held};
 
 use crate::page::Page;
 use crate::slot::Slot;
 use crate::table::Table;
 use std::alloc::Allocator;
 
+/// Says in a slot that its number is in the list of touched pages.
+#[tactic(auto, using(crate::proofs::ChangeLemmas::exchanged_here, crate::proofs::ChangeLemmas::exchanged_twice))]
+pub fn touch<A: Allocator>(table: &mut Table<A>, number: u32)
+    requires { is_some (slot_at table.old number) ≡ true }
+    ensures others { ChangesAt number (slot_at table.old) (slot_at table.new) }
+    ensures layers { layers_of (slot_at table.new number) ≡ record (layers_of (slot_at table.old number)) { touched = true } }
+    ensures span { table_span table.new ≡ table_span table.old }
+{
+    let mut slot = table.exchange(number, Slot::empty());
+    slot.touch();
+    let _empty = table.exchange(number, slot);
+}
+
 /// Puts a page into the upper layer of a slot.
 #[tactic(auto, using(crate::proofs::ChangeLemmas::exchanged_here, crate::proofs::ChangeLemmas::exchanged_twice))]
 pub fn put<A: Allocator>(table: &mut Table<A>, number: u32, page: Page<A>)
     requires { is_some (slot_at table.old number) ≡ true }
     ensures others { ChangesAt number (slot_at table.old) (slot_at table.new) }
-    ensures layers { layers_of (slot_at table.new number) ≡ record (layers_of (slot_at table.old number)) { upper = Some page } }
+    ensures layers { layers_of (slot_at table.new number) ≡ record (layers_of (slot_at table.old number)) { upper = Some page; held = true } }
     ensures span { table_span table.new ≡ table_span table.old }
 {
     let mut slot = table.exchange(number, Slot::empty());
     slot.put(page);
+    let _empty = table.exchange(number, slot);
+}
+
+/// Makes the page of a slot's upper layer one of zeros, which takes no memory.
+#[tactic(auto, using(crate::proofs::ChangeLemmas::exchanged_here, crate::proofs::ChangeLemmas::exchanged_twice))]
+pub fn zero<A: Allocator>(table: &mut Table<A>, number: u32)
+    requires { is_some (slot_at table.old number) ≡ true }
+    ensures others { ChangesAt number (slot_at table.old) (slot_at table.new) }
+    ensures layers { layers_of (slot_at table.new number) ≡ record (layers_of (slot_at table.old number)) { upper = Some zero_page; held = false } }
+    ensures span { table_span table.new ≡ table_span table.old }
+{
+    let mut slot = table.exchange(number, Slot::empty());
+    slot.zero();
     let _empty = table.exchange(number, slot);
 }
 
@@ -28,7 +54,7 @@ pub fn put<A: Allocator>(table: &mut Table<A>, number: u32, page: Page<A>)
 pub fn write<A: Allocator>(table: &mut Table<A>, number: u32, place: usize, sector: &[u8])
     requires place { place < 8 }
     requires sector { length sector.now ≡ 512 }
-    requires written { is_written (slot_at table.old) number ≡ true }
+    requires held { is_held (slot_at table.old) number ≡ true }
     ensures others { ChangesAt number (slot_at table.old) (slot_at table.new) }
     ensures layers { IsSlotWritten place sector.now (layers_of (slot_at table.old number)) (layers_of (slot_at table.new number)) }
     ensures span { table_span table.new ≡ table_span table.old }

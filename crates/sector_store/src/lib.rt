@@ -5,6 +5,7 @@
 mod base;
 mod branch;
 mod changing;
+mod layer;
 mod leaf;
 mod page;
 mod pages;
@@ -14,6 +15,7 @@ mod single;
 mod slot;
 mod table;
 mod whole;
+mod zeroing;
 
 pub use base::{Base, Buffer, Zeros};
 pub use pages::Pages;

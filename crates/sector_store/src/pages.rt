@@ -4,6 +4,7 @@ mod keeping;
 mod reading;
 mod reserving;
 mod writing;
+mod zeroing;
 
 ghost use Rattle.std.specs.Prelude.{◌≡◌, ℕ, ◌*◌, ◌≤◌, true, refl, IfOk};
 ghost use Rattle.sector_store.specs.Slots.{slot_at, table_span};
@@ -94,6 +95,10 @@ impl<B: Base, A: Allocator + Copy> SectorStore for Pages<B, A> {
 
     fn write(&mut self, lba: u64, bytes: &[u8]) {
         self.write_run(lba, bytes);
+    }
+
+    fn zero(&mut self, lba: u64, sectors: u64) -> Result<(), AllocError> {
+        self.zero_run(lba, sectors)
     }
 
     fn keep(&mut self) {

@@ -3,6 +3,7 @@
 ghost use Rattle.std.specs.Prelude.{◌≡◌, ℕ, ◌+◌, ◌*◌, ◌/◌, ◌<◌, ◌≤◌, Bool, true, not, ◌&&◌, ◌||◌, List, length, take, drop, OnOk, OnErr};
 ghost use Rattle.ncq_journal.specs.Image.{IsWrittenOver};
 ghost use Rattle.sector_store.specs.Reserved.{AreReserved, StayReserved};
+ghost use Rattle.sector_store.specs.Zeroed.{IsZeroed, StayReservedBut};
 
 use std::alloc::AllocError;
 
@@ -61,6 +62,21 @@ pub trait SectorStore {
         ensures kind { grows self.new ≡ grows self.old }
         ensures len { length (image self.new) ≡ length (image self.old) }
         ensures stay { StayReserved (is_reserved self.old) (is_reserved self.new) }
+        ensures starting { starting self.new ≡ starting self.old };
+
+    /// Makes these sectors zeros, and gives the memory back that they no longer need. Of these what was reserved may no longer be.
+    ///
+    /// # Errors
+    /// If there is no memory, which only a store lacks that grows. No sector changes then, and what was reserved is.
+    fn zero(&mut self, lba: u64, sectors: u64) -> Result<(), AllocError>
+        requires { 512 * (lba + sectors) ≤ length (image self.old) }
+        ensures ok { OnOk result (IsZeroed lba sectors (image self.old) (image self.new)) }
+        ensures err { OnErr result (image self.new ≡ image self.old) }
+        ensures lacking { OnErr result ((can_grow && grows self.old) ≡ true) }
+        ensures kind { grows self.new ≡ grows self.old }
+        ensures len { length (image self.new) ≡ length (image self.old) }
+        ensures stay { StayReservedBut lba sectors (is_reserved self.old) (is_reserved self.new) }
+        ensures held { OnErr result (StayReserved (is_reserved self.old) (is_reserved self.new)) }
         ensures starting { starting self.new ≡ starting self.old };
 
     /// Keeps the sectors as they are now. It takes no memory, and what was reserved may no longer be.

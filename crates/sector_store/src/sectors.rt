@@ -114,6 +114,13 @@ impl<A: Allocator> SectorStore for Sectors<A> {
         }
     }
 
+    fn zero(&mut self, lba: u64, sectors: u64) -> Result<(), AllocError> {
+        match self {
+            Sectors::Whole(store) => store.zero(lba, sectors),
+            Sectors::Pages(store) => store.zero(lba, sectors),
+        }
+    }
+
     fn keep(&mut self) {
         match self {
             Sectors::Whole(store) => store.keep(),

@@ -3,6 +3,7 @@
 ghost use Rattle.std.specs.Prelude.{◌≡◌, ℕ, ◌+◌, ◌*◌, ◌/◌, ◌<◌, ◌≤◌, length, false, true, refl, IfOk};
 
 use crate::sector_store::SectorStore;
+use crate::zeroing::zero_sectors;
 use ncq_journal::{read_sectors, write_sectors};
 use std::alloc::{AllocError, Allocator, Global};
 
@@ -71,6 +72,11 @@ impl<A: Allocator> SectorStore for Whole<A> {
 
     fn write(&mut self, lba: u64, bytes: &[u8]) {
         write_sectors(self.image.as_mut_slice(), lba, bytes);
+    }
+
+    fn zero(&mut self, lba: u64, sectors: u64) -> Result<(), AllocError> {
+        zero_sectors(self.image.as_mut_slice(), lba, sectors);
+        Ok(())
     }
 
     fn keep(&mut self) {

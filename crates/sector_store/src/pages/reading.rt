@@ -1,21 +1,22 @@
 //! How a sector is read.
 
-ghost use Rattle.std.specs.Prelude.{◌≡◌, ◌+◌, ◌*◌, ◌/◌, ◌<◌, ◌≤◌, length};
+ghost use Rattle.std.specs.Prelude.{◌≡◌, ◌+◌, ◌*◌, ◌/◌, ◌<◌, ◌≤◌, true, Some, length, IfSome};
 ghost use Rattle.std.specs.Option.{option_copied};
-ghost use Rattle.sector_store.specs.Layers.{page_now};
+ghost use Rattle.sector_store.specs.Blank.{IsBlank};
+ghost use Rattle.sector_store.specs.Layers.{page_now, zero_page};
 ghost use Rattle.sector_store.specs.Slots.{layers_of, slot_at};
 ghost use Rattle.sector_store.specs.Shown.{AreRead, sector_now, sector_kept};
 
 use crate::base::Base;
-use crate::page::Page;
 use crate::pages::Pages;
 use ncq_journal::read_sectors;
 use std::alloc::Allocator;
 
 impl<B: Base, A: Allocator> Pages<B, A> {
-    /// The page of a number as it is now.
-    fn page(&self, number: u32) -> Option<&Page<A>>
-        ensures { option_copied result ≡ page_now (layers_of (slot_at self.now.table number)) }
+    /// The bytes of a page as it is now, if there is one.
+    pub(super) fn page(&self, number: u32) -> Option<&[u8]>
+        ensures bytes { option_copied result ≡ page_now (layers_of (slot_at self.now.table number)) }
+        ensures len { IfSome (option_copied result) (λ page. length page ≡ 4096) }
     {
         match self.table.slot(number) {
             Some(slot) => slot.page(),
@@ -23,13 +24,35 @@ impl<B: Base, A: Allocator> Pages<B, A> {
         }
     }
 
-    /// The page of a number that was kept.
-    pub(super) fn kept_page(&self, number: u32) -> Option<&Page<A>>
-        ensures { option_copied result ≡ (layers_of (slot_at self.now.table number)).lower }
+    /// The bytes of a page that was kept, if there is one.
+    fn kept_page(&self, number: u32) -> Option<&[u8]>
+        ensures bytes { option_copied result ≡ (layers_of (slot_at self.now.table number)).lower }
+        ensures len { IfSome (option_copied result) (λ page. length page ≡ 4096) }
     {
         match self.table.slot(number) {
             Some(slot) => slot.kept(),
             None => None,
+        }
+    }
+
+    /// Whether a page as it is now has a mark that it is zeros.
+    fn is_marked(&self, number: u32) -> bool
+        ensures { result ≡ true → page_now (layers_of (slot_at self.now.table number)) ≡ Some zero_page }
+    {
+        match self.table.slot(number) {
+            Some(slot) => slot.is_zeros(),
+            None => false,
+        }
+    }
+
+    /// Whether a page as it is now is known to be zeros, with no look at its bytes.
+    #[tactic(auto, using(crate::proofs::ZeroLemmas::blank_marked, crate::proofs::ZeroLemmas::blank_below))]
+    pub(super) fn is_blank(&self, number: u32) -> bool
+        ensures { result ≡ true → IsBlank (sector_now (B.sector self.now.base) (slot_at self.now.table)) number }
+    {
+        match self.page(number) {
+            Some(_) => self.is_marked(number),
+            None => self.base.ends_at(number as u64 * 8),
         }
     }
 
@@ -40,7 +63,7 @@ impl<B: Base, A: Allocator> Pages<B, A> {
         ensures { out.new ≡ sector_now (B.sector self.now.base) (slot_at self.now.table) lba }
     {
         match self.page((lba / 8) as u32) {
-            Some(page) => read_sectors(page.bytes(), lba % 8, out),
+            Some(page) => read_sectors(page, lba % 8, out),
             None => self.base.read(lba, out),
         }
     }
@@ -52,7 +75,7 @@ impl<B: Base, A: Allocator> Pages<B, A> {
         ensures { out.new ≡ sector_kept (B.sector self.now.base) (slot_at self.now.table) lba }
     {
         match self.kept_page((lba / 8) as u32) {
-            Some(page) => read_sectors(page.bytes(), lba % 8, out),
+            Some(page) => read_sectors(page, lba % 8, out),
             None => self.base.read(lba, out),
         }
     }

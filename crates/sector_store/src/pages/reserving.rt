@@ -3,7 +3,7 @@
 ghost use Rattle.std.specs.Prelude.{◌≡◌, ◌+◌, ◌<◌, ◌≤◌, true, length, OnOk};
 ghost use Rattle.sector_store.specs.Reserved.{AreReserved};
 ghost use Rattle.sector_store.specs.Slots.{slot_at, table_span};
-ghost use Rattle.sector_store.specs.Shown.{IsPageOf, ShowSame, is_writable, is_written, sector_kept};
+ghost use Rattle.sector_store.specs.Shown.{IsPageOf, ShowSame, is_held, is_touched, is_writable, sector_now};
 
 use crate::base::Base;
 use crate::changing;
@@ -25,39 +25,59 @@ fn read_page<B: Base>(base: &B, number: u32, out: &mut [u8])
 }
 
 impl<B: Base, A: Allocator + Copy> Pages<B, A> {
-    /// The bytes of a page as it was kept.
-    fn below(&self, number: u32) -> [u8; PAGE]
-        ensures page { IsPageOf (sector_kept (B.sector self.now.base) (slot_at self.now.table)) number result }
+    /// The bytes of a page as it is now.
+    fn shown(&self, number: u32) -> [u8; PAGE]
+        ensures page { IsPageOf (sector_now (B.sector self.now.base) (slot_at self.now.table)) number result }
         ensures len { length result ≡ 4096 }
     {
         let mut bytes = [0; PAGE];
-        match self.kept_page(number) {
-            Some(page) => bytes.copy_from_slice(page.bytes()),
+        match self.page(number) {
+            Some(page) => bytes.copy_from_slice(page),
             None => read_page(&self.base, number, &mut bytes),
         }
         bytes
     }
 
-    /// Makes a page in the upper layer, if it isn't there, with the bytes that it shows.
+    /// Makes the slot of a number, and puts the number into the list, if it isn't there.
     ///
     /// # Errors
     /// If there is no memory.
-    fn reserve_page(&mut self, number: u32) -> Result<(), AllocError>
+    pub(super) fn touch(&mut self, number: u32) -> Result<(), AllocError>
         requires { number < table_span self.old.table }
-        ensures ok { OnOk result (is_written (slot_at self.new.table) number ≡ true) }
+        ensures ok { OnOk result (is_touched (slot_at self.new.table) number ≡ true) }
         ensures same { ShowSame (B.sector self.old.base) (slot_at self.old.table) (slot_at self.new.table) }
         ensures span { table_span self.new.table ≡ table_span self.old.table }
         ensures base { self.new.base ≡ self.old.base }
         ensures sectors { self.new.sectors ≡ self.old.sectors }
     {
-        if self.is_written(number) {
+        if self.is_touched(number) {
             return Ok(());
         }
         let alloc = self.alloc;
         self.table.make(alloc, number)?;
-        let bytes = self.below(number);
-        let page = Page::new(alloc, bytes)?;
         self.touched.push(number)?;
+        changing::touch(&mut self.table, number);
+        Ok(())
+    }
+
+    /// Makes a page in the upper layer, if none is in memory there, with the bytes that it shows.
+    ///
+    /// # Errors
+    /// If there is no memory.
+    pub(super) fn reserve_page(&mut self, number: u32) -> Result<(), AllocError>
+        requires { number < table_span self.old.table }
+        ensures ok { OnOk result (is_held (slot_at self.new.table) number ≡ true) }
+        ensures same { ShowSame (B.sector self.old.base) (slot_at self.old.table) (slot_at self.new.table) }
+        ensures span { table_span self.new.table ≡ table_span self.old.table }
+        ensures base { self.new.base ≡ self.old.base }
+        ensures sectors { self.new.sectors ≡ self.old.sectors }
+    {
+        if self.is_held(number) {
+            return Ok(());
+        }
+        self.touch(number)?;
+        let bytes = self.shown(number);
+        let page = Page::new(self.alloc, bytes)?;
         changing::put(&mut self.table, number, page);
         Ok(())
     }
@@ -82,12 +102,22 @@ impl<B: Base, A: Allocator + Copy> Pages<B, A> {
 }
 
 impl<B, A: Allocator> Pages<B, A> {
-    /// Whether a page is in the upper layer.
-    fn is_written(&self, number: u32) -> bool
-        ensures { result ≡ is_written (slot_at self.now.table) number }
+    /// Whether the page of a number's upper layer is in memory.
+    pub(super) fn is_held(&self, number: u32) -> bool
+        ensures { result ≡ is_held (slot_at self.now.table) number }
     {
         match self.table.slot(number) {
-            Some(slot) => slot.is_written(),
+            Some(slot) => slot.is_held(),
+            None => false,
+        }
+    }
+
+    /// Whether a number is in the list.
+    pub(super) fn is_touched(&self, number: u32) -> bool
+        ensures { result ≡ is_touched (slot_at self.now.table) number }
+    {
+        match self.table.slot(number) {
+            Some(slot) => slot.is_touched(),
             None => false,
         }
     }

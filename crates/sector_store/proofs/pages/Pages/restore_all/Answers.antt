@@ -20,6 +20,7 @@ invariant_of-self g c =
       whole = whole_dropped c.in-Some.number old new c.restore.ensures.others c.restore.ensures.layers c.loop-number.self.whole;
       touched_are =
           touched_less c.in-Some.number c.pop.new.self.items old new c.restore.ensures.others (ap (λ (l : Layers). l.upper) c.restore.ensures.layers)
+          (ap (λ (l : Layers). l.touched) c.restore.ensures.layers)
           (subst (λ xs. AreTouched old xs) c.in-Some.ensures.items c.loop-number.self.touched_are);
     }
 
