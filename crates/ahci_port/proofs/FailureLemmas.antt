@@ -3,7 +3,7 @@ use Rattle.std.proofs.Common.{◌≡◌, ◌≢◌, ℕ, ◌<◌, ◌≤◌, Boo
 use Rattle.std.proofs.lemmas.Bool.{cases_eq, cases_lt, true≢false, false≢true}
 use Rattle.ncq_journal.specs.declared.phase.Phase.{Phase}
 use Rattle.ncq_journal.specs.declared.phase.Phase.TheVariants.{Free, Issued, Accepted, Done}
-use Rattle.ncq_journal.specs.Entry.{Entry, Issue, Accept, Complete, Fail, Recover, Reissue, Collect, Unqueued}
+use Rattle.ncq_journal.specs.Entry.{Entry, Issue, Accept, Complete, Fail, Recover, Reissue, Collect, Unqueued, Zero}
 use Rattle.ncq_journal.specs.Halted.{halted}
 use Rattle.ncq_journal.specs.Lawful.{IsLawful}
 use Rattle.ncq_journal.specs.Phase.{phase, recovered, is_failed, failed}
@@ -53,6 +53,7 @@ failed_is_last s d (Recover t ∷ past) tag few lawful h = absurd (true≢false 
 failed_is_last s d (Reissue t ∷ past) tag few lawful h = failed_is_last s d past tag few lawful.0 (calm_own past t tag Issued refl h)
 failed_is_last s d (Collect t ∷ past) tag few lawful h = failed_is_last s d past tag few lawful.0 (calm_own past t tag Free refl h)
 failed_is_last s d (Unqueued command ∷ past) tag few lawful h = failed_is_last s d past tag few lawful.0 h
+failed_is_last s d (Zero lba sectors ∷ past) tag few lawful h = failed_is_last s d past tag few lawful.0 h
 
 -- the port is halted once a command has failed
 pub halted_fail : (past : List Entry) (t error lba : ℕ) → t < 32 → halted (Fail t error lba ∷ past) ≡ true

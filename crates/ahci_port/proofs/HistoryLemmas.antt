@@ -4,7 +4,7 @@ use Rattle.std.specs.Option.{option_map}
 use Rattle.ahci_table.specs.Window.{WindowState}
 use Rattle.ncq_core.specs.DiskState.{DiskError}
 use Rattle.ncq_journal.specs.Answer.{Answer, answer}
-use Rattle.ncq_journal.specs.Entry.{Entry, Issue, Accept, Complete, Fail, Recover, Reissue, Collect, Unqueued}
+use Rattle.ncq_journal.specs.Entry.{Entry, Issue, Accept, Complete, Fail, Recover, Reissue, Collect, Unqueued, Zero}
 use Rattle.ncq_journal.specs.Halted.{halted}
 use Rattle.ncq_journal.specs.Image.{sector_at}
 use Rattle.ncq_journal.specs.Lawful.{IsLawful}
@@ -31,6 +31,7 @@ last_of_parts (Recover t ∷ later) past P some = last_of_parts later past P som
 last_of_parts (Reissue t ∷ later) past P some = last_of_parts later past P some
 last_of_parts (Collect t ∷ later) past P some = last_of_parts later past P some
 last_of_parts (Unqueued command ∷ later) past P some = last_of_parts later past P some
+last_of_parts (Zero lba sectors ∷ later) past P some = last_of_parts later past P some
 
 -- the error condition after both parts is that of the later one
 standing_of_parts : (s d : ℕ) (later past : List Entry) → d ≤ 32 → IsLawful s d later → AllFree past → standing (later ++ past) ≡ standing later

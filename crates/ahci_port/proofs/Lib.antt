@@ -32,3 +32,4 @@ pub mod ResettingLemmas
 pub mod HistoryLemmas
 pub mod CarryingLemmas
 pub mod WritingLemmas
+pub mod ZeroingLemmas

@@ -1,6 +1,6 @@
 -- When each call of the port is refused: the first case that holds, in this order (profile). A tag at or above the depth
 -- counts as a free slot.
-use Rattle.std.specs.Prelude.{◌≡◌, ◌≢◌, ℕ, ◌<◌, ◌≤◌, Bool, true, false, not, ◌||◌, nat_eq, nat_le, nat_lt, ◌^◌, if◌then◌else◌, List, [], ◌∷◌, length, Option, None, Some, is_some, Result, Err, IsOk, IsOkUnless}
+use Rattle.std.specs.Prelude.{◌≡◌, ◌≢◌, ℕ, ◌+◌, ◌<◌, ◌≤◌, Bool, true, false, not, ◌||◌, nat_eq, nat_le, nat_lt, ◌^◌, if◌then◌else◌, List, [], ◌∷◌, length, Option, None, Some, is_some, Result, Err, IsOk, IsOkUnless}
 use Rattle.std.specs.List.{list_all, list_any}
 use Rattle.std.specs.Option.{option_map, option_or}
 use Rattle.ahci_table.specs.declared.fault.TableFault.TheVariants as table
@@ -18,7 +18,7 @@ use Rattle.ncq_journal.specs.Phase.{phase}
 use Rattle.ncq_journal.specs.Lawful.{most_sectors}
 use Rattle.ncq_journal.specs.Request.{Request, request}
 use Rattle.ncq_journal.specs.Work.{Work, is_ragged, lba_of, sectors_of}
-use Rattle.ahci_port.specs.PortView.{PortView, is_free, next_number, owner_of}
+use Rattle.ahci_port.specs.PortView.{PortView, is_free, next_number, owner_of, sectors_in}
 use Rattle.ahci_port.specs.declared.fault.IssueFault.{IssueFault}
 use Rattle.ahci_port.specs.declared.fault.IssueFault.TheVariants as issue
 use Rattle.ahci_port.specs.declared.fault.SubmitFault.{SubmitFault}
@@ -39,6 +39,8 @@ use Rattle.ahci_port.specs.declared.fault.ResumeFault.{ResumeFault}
 use Rattle.ahci_port.specs.declared.fault.ResumeFault.TheVariants as resume
 use Rattle.ahci_port.specs.declared.fault.PlainFault.{PlainFault}
 use Rattle.ahci_port.specs.declared.fault.PlainFault.TheVariants as plain
+use Rattle.ahci_port.specs.declared.fault.ZeroFault.{ZeroFault}
+use Rattle.ahci_port.specs.declared.fault.ZeroFault.TheVariants as zero
 use Rattle.ahci_port.specs.declared.step.DeviceStep.{DeviceStep}
 use Rattle.ahci_port.specs.declared.step.DeviceStep.TheVariants.{Accept, Serve, Fail}
 
@@ -175,6 +177,24 @@ reissue_refusal port tag =
 -- why a command that is not queued is not sent, want of memory aside
 abbrev pub plain_refusal : PortView → Option PlainFault
 plain_refusal port = if halted port.past then Some plain.Halted else (if busy port.past then Some plain.QueueBusy else None)
+
+-- the same as the fault of a call that makes sectors zeros
+abbrev pub zero_fault_of : PlainFault → ZeroFault
+zero_fault_of plain.Halted = zero.Halted
+zero_fault_of plain.QueueBusy = zero.QueueBusy
+zero_fault_of plain.OutOfMemory = zero.OutOfMemory
+
+-- there are no sectors, or not all of them are those of a disk of so many
+abbrev pub lacks_sectors : (size lba sectors : ℕ) → Bool
+lacks_sectors size lba sectors = nat_eq sectors 0 || nat_lt size (lba + sectors)
+
+-- why sectors are not made zeros, want of memory aside. What is reserved for the write of a slot that is owned is to stay so
+abbrev pub run_refusal : PortView → (lba sectors : ℕ) → Option ZeroFault
+run_refusal port lba sectors =
+    if is_vacant port then (if lacks_sectors (sectors_in port) lba sectors then Some zero.NoSuchSector else None) else Some zero.SlotOwned
+
+abbrev pub zero_refusal : PortView → (lba sectors : ℕ) → Option ZeroFault
+zero_refusal port lba sectors = option_or (option_map zero_fault_of (plain_refusal port)) (run_refusal port lba sectors)
 
 -- the call fails exactly with this fault, and else succeeds
 abbrev pub Answers : {T E : Type 0} → Result T E → Option E → Type 0

@@ -17,6 +17,8 @@ use Rattle.ahci_port.specs.declared.fault.ReissueFault.{ReissueFault}
 use Rattle.ahci_port.specs.declared.fault.ReissueFault.TheVariants as reissue
 use Rattle.ahci_port.specs.declared.fault.PlainFault.{PlainFault}
 use Rattle.ahci_port.specs.declared.fault.PlainFault.TheVariants as plain
+use Rattle.ahci_port.specs.declared.fault.ZeroFault.{ZeroFault}
+use Rattle.ahci_port.specs.declared.fault.ZeroFault.TheVariants as zero
 use Rattle.ahci_port.specs.declared.fault.SubmitFault.{SubmitFault}
 use Rattle.ahci_port.specs.declared.fault.SubmitFault.TheVariants as submit
 use Rattle.ahci_port.specs.declared.fault.WriteFault.{WriteFault}
@@ -80,6 +82,13 @@ abbrev pub of_plain : PlainFault → Refusal
 of_plain plain.Halted = refusal.Halted
 of_plain plain.QueueBusy = refusal.QueueBusy
 of_plain plain.OutOfMemory = refusal.OutOfMemory
+
+abbrev pub of_zero : ZeroFault → Refusal
+of_zero zero.Halted = refusal.Halted
+of_zero zero.QueueBusy = refusal.QueueBusy
+of_zero zero.SlotOwned = refusal.SlotOwned
+of_zero zero.NoSuchSector = refusal.NoSuchSector
+of_zero zero.OutOfMemory = refusal.OutOfMemory
 
 -- a command is not submitted
 abbrev pub of_submit : SubmitFault → Refusal

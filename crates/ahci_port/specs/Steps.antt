@@ -13,8 +13,8 @@ use Rattle.ncq_journal.specs.declared.plain.Plain.{Plain}
 use Rattle.ncq_journal.specs.declared.plain.Plain.TheVariants as plain
 use Rattle.ncq_journal.specs.Answer.{Answer, answer, sectors_at}
 use Rattle.ncq_core.specs.DiskFis.{accepted_bytes, not_found_bytes, pio_bytes, setup_bytes, completed_bytes, failed_bytes}
-use Rattle.ncq_journal.specs.Entry.{Entry, Issue, Accept, Complete, Fail, Recover, Reissue, Collect, Unqueued}
-use Rattle.ncq_journal.specs.Image.{is_write, sector_at}
+use Rattle.ncq_journal.specs.Entry.{Entry, Issue, Accept, Complete, Fail, Recover, Reissue, Collect, Unqueued, Zero}
+use Rattle.ncq_journal.specs.Image.{IsZeroedOver, is_write, sector_at}
 use Rattle.ncq_journal.specs.Lawful.{IsLawful, end_of}
 use Rattle.ncq_journal.specs.Numbering.{answer_numbered, place_of}
 use Rattle.ncq_journal.specs.Request.{request}
@@ -244,3 +244,16 @@ IsIdentified = IsCarriedOut plain.Identify
 -- FLUSH CACHE EXT: it sends a D2H Register FIS
 abbrev pub IsFlushed : PortView → PortView → Type 0
 IsFlushed = IsCarriedOut plain.Flush
+
+-- sectors become zeros; registers, received FIS area, windows and what slot 0 sent stay
+pub record IsZeroed (lba sectors : ℕ) (old new : PortView) : Type 0 where
+  pub past_is : new.past ≡ Zero lba sectors ∷ old.past
+  pub zeros : IsZeroedOver lba sectors old.image new.image
+  pub room : ReservesRoom old new
+  pub rest_same : new ≡ record old { image = new.image; past = new.past; room = new.room; held = new.held }
+
+-- nothing has changed but for the journal's memory, of which there may be more
+pub record GrowsRoom (old new : PortView) : Type 0 where
+  pub rest_same : new ≡ record old { room = new.room; held = new.held }
+  pub room_more : old.room ≤ new.room
+  pub held_more : old.held ≤ new.held

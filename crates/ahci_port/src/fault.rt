@@ -151,6 +151,32 @@ impl From<AllocError> for PlainFault {
     }
 }
 
+/// Why sectors were not made zeros. The cases are tested in this order.
+#[derive(Clone, Copy, Debug, PartialEq, Eq)]
+pub enum ZeroFault {
+    /// A command has failed, and the port has not recovered.
+    Halted,
+    /// A queued command waits for the device or is outstanding in it.
+    QueueBusy,
+    /// Some slot has a request, and memory for the sectors of its write may be reserved.
+    SlotOwned,
+    /// There are no sectors, or not all of them are the disk's.
+    NoSuchSector,
+    /// Room for the command's entry, or memory that the store needs, was refused.
+    OutOfMemory,
+}
+
+impl From<AllocError> for ZeroFault {
+    ghost use Rattle.std.specs.Prelude.{◌≡◌};
+    ghost use Rattle.ahci_port.specs.declared.fault.ZeroFault.TheVariants as the-fault;
+
+    ghost from_gives = { λ _ fault. fault ≡ the-fault.OutOfMemory };
+
+    fn from(_refused: AllocError) -> ZeroFault {
+        ZeroFault::OutOfMemory
+    }
+}
+
 /// Why a write to a register was not taken. Of each register the cases are tested in this order.
 #[derive(Clone, Copy, Debug, PartialEq, Eq)]
 pub enum WriteFault {

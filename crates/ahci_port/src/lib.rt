@@ -22,7 +22,7 @@ pub use ahci_regs::RegFault;
 pub use ahci_table::{BuildFault, Piece, Window, default_pieces};
 pub use fault::{
     CollectFault, IssueFault, PlainFault, RecoverFault, ReissueFault, ResetFault, ResumeFault,
-    StepFault, SubmitFault, TrimFault, WriteFault,
+    StepFault, SubmitFault, TrimFault, WriteFault, ZeroFault,
 };
 pub use ncq_core::DiskFault;
 pub use ncq_journal::{Bytes, Event, EventKind, Journal, Op, Outcome, Phase, Plain};

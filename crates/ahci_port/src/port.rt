@@ -10,6 +10,7 @@ mod stepping;
 mod submitting;
 mod trimming;
 mod writing;
+mod zeroing;
 
 ghost use Rattle.std.specs.Prelude.{◌≡◌, ◌/◌, ◌<◌, ◌≤◌, None, length, replicate, IfOk};
 ghost use Rattle.ahci_regs.specs.Reading.{read_of};

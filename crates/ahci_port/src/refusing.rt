@@ -1,11 +1,11 @@
 //! The faults of the port's calls as refusals, whose text they show as errors.
 
 ghost use Rattle.std.specs.Prelude.{◌≡◌};
-ghost use Rattle.ahci_port.specs.Refusals.{of_collect, of_issue, of_plain, of_recover, of_reissue, of_reset, of_resume, of_step, of_submit, of_trim, of_write};
+ghost use Rattle.ahci_port.specs.Refusals.{of_collect, of_issue, of_plain, of_recover, of_reissue, of_reset, of_resume, of_step, of_submit, of_trim, of_write, of_zero};
 
 use crate::fault::{
     CollectFault, IssueFault, PlainFault, RecoverFault, ReissueFault, ResetFault, ResumeFault,
-    StepFault, SubmitFault, TrimFault, WriteFault,
+    StepFault, SubmitFault, TrimFault, WriteFault, ZeroFault,
 };
 use port_refusal::Refusal;
 use std::error::Error;
@@ -213,6 +213,28 @@ impl Display for PlainFault {
 }
 
 impl Error for PlainFault {}
+
+impl From<ZeroFault> for Refusal {
+    ghost from_gives = { λ fault refusal. refusal ≡ of_zero fault };
+
+    fn from(fault: ZeroFault) -> Refusal {
+        match fault {
+            ZeroFault::Halted => Refusal::Halted,
+            ZeroFault::QueueBusy => Refusal::QueueBusy,
+            ZeroFault::SlotOwned => Refusal::SlotOwned,
+            ZeroFault::NoSuchSector => Refusal::NoSuchSector,
+            ZeroFault::OutOfMemory => Refusal::OutOfMemory,
+        }
+    }
+}
+
+impl Display for ZeroFault {
+    fn fmt<W: Write>(&self, f: &mut Formatter<W>) -> Result<(), fmt::Error> {
+        Refusal::from(*self).fmt(f)
+    }
+}
+
+impl Error for ZeroFault {}
 
 impl From<WriteFault> for Refusal {
     ghost from_gives = { λ fault refusal. refusal ≡ of_write fault };

@@ -11,7 +11,7 @@ mod taking;
 ghost use Rattle.std.specs.Prelude.{◌≡◌, ◌+◌, ◌*◌, ◌/◌, ◌<◌, ◌≤◌, ◌^◌, None, Some, false, true, ◌&&◌, length, is_some, IfOk, IfErr, IfSome, OnOk, OnErr};
 ghost use Rattle.std.specs.Option.{option_copied};
 ghost use Rattle.word_bits.specs.Places.{bits};
-ghost use Rattle.ncq_journal.specs.Image.{sector_at};
+ghost use Rattle.ncq_journal.specs.Image.{IsZeroedOver, sector_at};
 ghost use Rattle.sector_store.specs.{Reserved.{AreReserved, StayReserved}, Shown.{ChangesAmong}};
 ghost use Rattle.ncq_core.specs.DiskState.{IsDisk, command_of, disk_over, disk_sectors, is_bad_depth, is_reserved_in, is_stopped, new_disk, new_fault, no_commands, outstanding, over_fault, reserved_of, size_fault};
 ghost use Rattle.ncq_core.specs.DiskFis.{completed_bytes, pio_bytes, flushed_bytes};
@@ -251,6 +251,23 @@ impl<S: SectorStore> Disk<S> {
     {
         self.store.reserve(lba, sectors)?;
         Ok(())
+    }
+
+    /// Makes these sectors zeros, and gives the memory back that the store no longer needs for them. What was reserved of them may no longer be.
+    ///
+    /// # Errors
+    /// If there is no memory, which only a store lacks that grows. No sector changes then, and what was reserved is.
+    #[tactic(auto, using(crate::proofs::DiskLemmas::is_disk_moved, crate::proofs::ReservedLemmas::listed_stay))]
+    pub fn zero(&mut self, lba: u64, sectors: u64) -> Result<(), AllocError>
+        requires { lba + sectors ≤ disk_sectors self.old }
+        ensures ok { OnOk result (IsZeroedOver lba sectors self.old.image self.new.image) }
+        ensures err { OnErr result (self.new.image ≡ self.old.image) }
+        ensures lacking { OnErr result ((S.can_grow && self.old.grows) ≡ true) }
+        ensures len { length self.new.image ≡ length self.old.image }
+        ensures held { OnErr result (StayReserved (is_reserved_in self.old.reserved) (is_reserved_in self.new.reserved)) }
+        ensures state { self.new ≡ record self.old { image = self.new.image; reserved = self.new.reserved } }
+    {
+        self.store.zero(lba, sectors)
     }
 
     /// Keeps the sectors as they are now. It takes no memory, and what was reserved may no longer be.

@@ -10,7 +10,7 @@ pub use ncq_journal::laws::{
     a_request_is_answered_by_its_phase, a_tag_past_the_depth_is_free,
     an_ended_request_has_this_answer, an_owned_tag_has_a_request,
     an_unanswered_request_is_its_tags_last, at_most_one_command_has_failed,
-    entries_are_numbered_from_the_first, only_a_completed_write_changes_sectors,
+    entries_are_numbered_from_the_first, only_a_completed_write_or_a_zero_changes_sectors,
     outstanding_tags_are_active, what_requests_need_is_bounded,
 };
 

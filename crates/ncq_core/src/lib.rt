@@ -17,8 +17,8 @@ pub use host::Host;
 pub use ncq_journal::{
     Answer, Bytes, Claim, Event, Journal, LBA_LIMIT, MAX_COUNT, Op, OutOfMemory, Outcome, Phase,
     Plain, Request, answer_of, ci_of, claims_hold, device_tags_of, entry_in, is_allowed, is_busy,
-    is_covered, is_halted, is_lawful, is_proper, owed_by, phase_after, phase_of, read_sectors,
-    request_of, sact_of, sector_in, sector_of, write_sectors,
+    is_covered, is_halted, is_lawful, is_proper, is_within, lie_on, owed_by, phase_after, phase_of,
+    read_sectors, request_of, sact_of, sector_in, sector_of, write_sectors, zero_sectors, zeroed,
 };
 pub use serve_fault::ServeFault;
 pub use taken::Taken;

@@ -8,7 +8,7 @@ use Rattle.ncq_journal.specs.declared.outcome.Outcome.TheVariants as outcome
 use Rattle.ncq_journal.specs.declared.phase.Phase.{Phase}
 use Rattle.ncq_journal.specs.declared.phase.Phase.TheVariants.{Free, Issued, Accepted, Held, Done}
 use Rattle.ncq_journal.specs.Answer.{Answer, answer, given, completes}
-use Rattle.ncq_journal.specs.Entry.{Entry, Issue, Accept, Complete, Fail, Recover, Reissue, Collect, Unqueued}
+use Rattle.ncq_journal.specs.Entry.{Entry, Issue, Accept, Complete, Fail, Recover, Reissue, Collect, Unqueued, Zero}
 use Rattle.ncq_journal.specs.History.{entry_at, first_of}
 use Rattle.ncq_journal.specs.Lawful.{Fails, IsLawful}
 use Rattle.ncq_journal.specs.Laws.{is_answered, answer_at, AnsweredByPhase, CompletedHasThisAnswer, CompletedIsAnswered, FailedHasThisAnswer, FailedIsNotCompleted, UnansweredIsLast, is_failure}
@@ -97,6 +97,8 @@ answered_by_phase s d image (Collect t ∷ past) tag r h e =
     ap is_some (silent image past r.number (Collect t) refl) ∙ answered_by_phase s d image past tag r h.0 e ∙ sym (moves past t tag Done Free h.1 refl)
 answered_by_phase s d image (Unqueued command ∷ past) tag r h e =
     ap is_some (silent image past r.number (Unqueued command) refl) ∙ answered_by_phase s d image past tag r h.0 e
+answered_by_phase s d image (Zero lba sectors ∷ past) tag r h e =
+    ap is_some (silent image past r.number (Zero lba sectors) refl) ∙ answered_by_phase s d image past tag r h.0 e
 
 none_yet : (o : Option Answer) → is_some o ≡ false → o ≡ None
 none_yet None h = refl

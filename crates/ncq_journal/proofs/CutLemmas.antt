@@ -9,10 +9,10 @@ use Rattle.std.proofs.lemmas.Option.{none-some}
 use Rattle.ncq_journal.specs.declared.phase.Phase.TheVariants.{Free, Issued}
 use Rattle.ncq_journal.specs.declared.outcome.Outcome.TheVariants as outcome
 use Rattle.ncq_journal.specs.Answer.{Answer, answer, completes, given}
-use Rattle.ncq_journal.specs.Entry.{Entry, Issue, Accept, Complete, Fail, Recover, Reissue, Collect, Unqueued}
+use Rattle.ncq_journal.specs.Entry.{Entry, Issue, Accept, Complete, Fail, Recover, Reissue, Collect, Unqueued, Zero}
 use Rattle.ncq_journal.specs.Halted.{halted}
 use Rattle.ncq_journal.specs.History.{entry_at}
-use Rattle.ncq_journal.specs.Lawful.{IsAllowed, IsLawful, Fails, Fits}
+use Rattle.ncq_journal.specs.Lawful.{IsAllowed, IsLawful, MaySend, Fails, Fits}
 use Rattle.ncq_journal.specs.Laws.{AllFree, is_answered, SaidOfLater, LawfulOfParts, AnswersFollow, AnswersStay, RequestOfParts, AnswerOfParts, AnswerOfEarlier}
 use Rattle.ncq_journal.specs.Numbering.{request_numbered, answer_numbered}
 use Rattle.ncq_journal.specs.Owed.{owed, owed_in}
@@ -43,6 +43,9 @@ device_tags_of_parts later past free =
 pub owed_of_parts : SaidOfLater owed
 owed_of_parts later past free = sum_same (λ t. owed_in (phase later t)) (λ t. owed_in (phase (later ++ past) t)) (λ t. ap owed_in (phase_parts later past t free))
 
+may_send_whole : (later past : List Entry) → AllFree past → MaySend later → MaySend (later ++ past)
+may_send_whole later past free h = (halted_parts later past free ∙ h.0, busy_parts later past free ∙ h.1)
+
 allowed_whole : (s d : ℕ) (later past : List Entry) (entry : Entry) → AllFree past → IsLawful s d later → IsAllowed s d later entry → IsAllowed s d (later ++ past) entry
 allowed_whole s d later past (Issue t work) free own h = (h.0, phase_parts later past t free ∙ h.1, halted_parts later past free ∙ h.2, h.3)
 allowed_whole s d later past (Accept t) free own h =
@@ -57,7 +60,8 @@ allowed_whole s d later past (Fail t error lba) free own h =
 allowed_whole s d later past (Recover t) free own h = ap is_failed (phase_parts later past t free) ∙ h
 allowed_whole s d later past (Reissue t) free own h = (phase_parts later past t free ∙ h.0, halted_parts later past free ∙ h.1)
 allowed_whole s d later past (Collect t) free own h = phase_parts later past t free ∙ h
-allowed_whole s d later past (Unqueued c) free own h = (h.0, halted_parts later past free ∙ h.1, busy_parts later past free ∙ h.2)
+allowed_whole s d later past (Unqueued c) free own h = (h.0, may_send_whole later past free h.1)
+allowed_whole s d later past (Zero lba sectors) free own h = (h.0, may_send_whole later past free h.1)
 
 lawful_whole : (s d : ℕ) (later past : List Entry) → IsLawful s d past → AllFree past → IsLawful s d later → IsLawful s d (later ++ past)
 lawful_whole s d [] past own free h = own
@@ -87,6 +91,7 @@ request_of_parts (Recover t ∷ later) past tag r e = request_of_parts later pas
 request_of_parts (Reissue t ∷ later) past tag r e = request_of_parts later past tag r e
 request_of_parts (Collect t ∷ later) past tag r e = request_of_parts later past tag r e
 request_of_parts (Unqueued c ∷ later) past tag r e = request_of_parts later past tag r e
+request_of_parts (Zero lba sectors ∷ later) past tag r e = request_of_parts later past tag r e
 
 slice_get-after : {X : Type 0} (xs ys : List X) (k : ℕ) → slice_get (xs ++ ys) (length xs + k) ≡ slice_get ys k
 slice_get-after [] ys k = ap (slice_get ys) (let e : 0 + k ≡ k = omega arith in e)

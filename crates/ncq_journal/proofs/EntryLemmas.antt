@@ -5,7 +5,7 @@ use Rattle.std.specs.List.{slice_get}
 use Rattle.std.proofs.lemmas.Bool.{cases_lt, eqb-true}
 use Rattle.std.proofs.lemmas.List.{reverse-append, length-reverse}
 use Rattle.std.proofs.lemmas.Option.{slice_get_within, same_Some, slice_get_past}
-use Rattle.ncq_journal.specs.Entry.{Entry, Issue, Accept, Complete, Fail, Recover, Reissue, Collect, Unqueued}
+use Rattle.ncq_journal.specs.Entry.{Entry, Issue, Accept, Complete, Fail, Recover, Reissue, Collect, Unqueued, Zero}
 use Rattle.ncq_journal.specs.History.{entry_at, first_of}
 use Rattle.ncq_journal.specs.Lawful.{IsAllowed, IsLawful}
 use Rattle.ncq_journal.specs.Laws.{LawfulAtEach, RequestIsItsIssue}
@@ -108,3 +108,4 @@ request_is_its_issue (Recover t ∷ past) tag r e = keeps past (Recover t) r.num
 request_is_its_issue (Reissue t ∷ past) tag r e = keeps past (Reissue t) r.number (Issue tag r.work) (request_is_its_issue past tag r e)
 request_is_its_issue (Collect t ∷ past) tag r e = keeps past (Collect t) r.number (Issue tag r.work) (request_is_its_issue past tag r e)
 request_is_its_issue (Unqueued command ∷ past) tag r e = keeps past (Unqueued command) r.number (Issue tag r.work) (request_is_its_issue past tag r e)
+request_is_its_issue (Zero lba sectors ∷ past) tag r e = keeps past (Zero lba sectors) r.number (Issue tag r.work) (request_is_its_issue past tag r e)

@@ -3,7 +3,7 @@ use Rattle.std.proofs.Common.{◌≡◌, ℕ, ◌≤◌, ◌<◌, Bool, true, fa
 use Rattle.std.proofs.lemmas.Bool.{both_ways, cases_lt, false≢true}
 use Rattle.ncq_journal.specs.declared.phase.Phase.{Phase}
 use Rattle.ncq_journal.specs.declared.phase.Phase.TheVariants.{Free, Issued, Accepted, Done}
-use Rattle.ncq_journal.specs.Entry.{Entry, Issue, Accept, Complete, Fail, Recover, Reissue, Collect, Unqueued}
+use Rattle.ncq_journal.specs.Entry.{Entry, Issue, Accept, Complete, Fail, Recover, Reissue, Collect, Unqueued, Zero}
 use Rattle.ncq_journal.specs.Halted.{halted}
 use Rattle.ncq_journal.specs.Lawful.{IsLawful}
 use Rattle.ncq_journal.specs.Laws.{BusyByATag, HaltedByATag, OneHasFailed}
@@ -49,6 +49,7 @@ one_has_failed s d (Reissue v ∷ past) t u few h e f =
 one_has_failed s d (Collect v ∷ past) t u few h e f =
     one_has_failed s d past t u few h.0 (had_failed v t Free (phase past t) refl e) (had_failed v u Free (phase past u) refl f)
 one_has_failed s d (Unqueued command ∷ past) t u few h e f = one_has_failed s d past t u few h.0 e f
+one_has_failed s d (Zero lba sectors ∷ past) t u few h e f = one_has_failed s d past t u few h.0 e f
 
 -- a tag with such a phase is below 32
 low_tag : (s d : ℕ) (past : List Entry) (tag : ℕ) (test : Phase → Bool) → test Free ≡ false → d ≤ 32 → IsLawful s d past → test (phase past tag) ≡ true → tag < 32

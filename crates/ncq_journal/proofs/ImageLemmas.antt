@@ -1,12 +1,12 @@
 -- Sectors as parts of a list of bytes.
-use Rattle.std.proofs.Common.{◌≡◌, ℕ, ◌+◌, ◌-◌, ◌*◌, ◌<◌, ◌≤◌, min, List, length, take, drop, ap, sym, ◌∙◌, arith, length-drop, inl, inr, cond, ◌&&◌, leb, ltb, ◌++◌, zero, suc, refl}
-use Rattle.std.proofs.lemmas.List.{take_all, drop_all, drop-take, drop-drop, take-append-le, length-take-le}
-use Rattle.std.proofs.lemmas.Bool.{cases_lt, cond-true, cond-false, and_left, and_right, and_from, lt-leb, le-leb, lt-ltb, le-ltb}
+use Rattle.std.proofs.Common.{◌≡◌, ℕ, ◌+◌, ◌-◌, ◌*◌, ◌<◌, ◌≤◌, min, List, length, take, drop, ap, sym, ◌∙◌, arith, length-drop, inl, inr, cond, ◌&&◌, leb, ltb, ◌++◌, zero, suc, refl, Bool, true, false, replicate}
+use Rattle.std.proofs.lemmas.List.{take_all, drop_all, drop-take, drop-drop, drop-replicate, take-append-le, take-replicate, length-replicate, length-take-le}
+use Rattle.std.proofs.lemmas.Bool.{cases_lt, cond-true, cond-false, and_left, and_parts, and_right, and_from, leb-true, lt-leb, le-leb, lt-ltb, ltb-true, le-ltb}
 use Rattle.std.proofs.Math.Seq.{drop-append-add, take-add}
 use Rattle.std.specs.List.{flat_map, range_with_len}
 use Rattle.std.proofs.lemmas.Slice.{take-put_mid_below, drop-put_mid}
 use borrow.Rule.Slice.PartMut.{put_mid, post_of}
-use Rattle.ncq_journal.specs.Image.{sector_at}
+use Rattle.ncq_journal.specs.Image.{sector_at, is_within, zero_sector, zeroed}
 
 take-min : (xs : List ℕ) (n : ℕ) → take (min (length xs) n) xs ≡ take n xs
 take-min xs n =
@@ -65,6 +65,27 @@ sector_at-put_mid lba n k xs ys part len fits s =
         ∙ sym (drop-take m 512 rest)
         ∙ ap (drop m) (take-append-le (m + 512) ys (post_of (lba * 512) k xs) (omega arith))
         ∙ drop-take m 512 ys
+
+-- a sector of zeros alone
+zero_within : (n i : ℕ) → i < n → sector_at (replicate (512 * n) 0) i ≡ zero_sector
+unfolding zero_sector
+zero_within n i low =
+    ap (take 512) (drop-replicate (512 * i) (512 * n) 0) ∙ take-replicate 512 (512 * n - 512 * i) 0 (omega arith)
+
+-- each sector once a part of an image is zeros
+pub zeroed-put_mid : (lba n k : ℕ) (xs ys : List ℕ) → k ≡ 512 * n → ys ≡ replicate (512 * n) 0 → lba * 512 + k ≤ length xs → (s : ℕ)
+    → sector_at (put_mid (lba * 512) k xs ys) s ≡ zeroed lba n s (sector_at xs s)
+zeroed-put_mid lba n k xs ys part zeros fits s =
+    let len : length ys ≡ 512 * n = ap length zeros ∙ length-replicate (512 * n) 0 in
+    sector_at-put_mid lba n k xs ys part len fits s ∙ by (is_within lba n s) refl
+  where
+    by : (b : Bool) → is_within lba n s ≡ b → cond b (sector_at ys (s - lba)) (sector_at xs s) ≡ cond b zero_sector (sector_at xs s)
+    by true e =
+        let parts = and_parts (leb lba s) (ltb s (lba + n)) e in
+        let from : lba ≤ s = leb-true lba s parts.0 in
+        let below : s < lba + n = ltb-true s (lba + n) parts.1 in
+        ap (λ y. sector_at y (s - lba)) zeros ∙ zero_within n (s - lba) (omega arith)
+    by false e = refl
 
 -- a run of an image's bytes is its sectors, joined
 pub joined-sectors : (f : ℕ → List ℕ) (image : List ℕ) → ((s : ℕ) → sector_at image s ≡ f s) → (lba n : ℕ) → take (512 * n) (drop (512 * lba) image) ≡ flat_map f (range_with_len lba n)

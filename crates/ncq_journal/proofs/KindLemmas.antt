@@ -6,7 +6,7 @@ use Rattle.std.specs.Option.{option_map}
 use Rattle.std.proofs.lemmas.List.FromFn.{get_or-map-range_with_len, length-map-range_with_len}
 use Rattle.std.proofs.lemmas.List.{ext_get_or, get_or-replicate, length-replicate, map-append, reverse-append, take_all, take_more}
 use Rattle.std.proofs.lemmas.Option.{slice_get_read}
-use Rattle.ncq_journal.specs.Entry.{Entry, Issue, Accept, Complete, Fail, Recover, Reissue, Collect, Unqueued}
+use Rattle.ncq_journal.specs.Entry.{Entry, Issue, Accept, Complete, Fail, Recover, Reissue, Collect, Unqueued, Zero}
 use Rattle.ncq_journal.specs.Halted.{busy, halted, tags}
 use Rattle.ncq_journal.specs.declared.phase.Phase.{Phase}
 use Rattle.ncq_journal.specs.declared.phase.Phase.TheVariants.{Free, Issued, Accepted, Held, Done}
@@ -46,6 +46,7 @@ span_next past tag (Recover t) = refl
 span_next past tag (Reissue t) = refl
 span_next past tag (Collect t) = refl
 span_next past tag (Unqueued command) = refl
+span_next past tag (Zero lba sectors) = refl
 
 -- what is known of a tag after one more entry
 pub state_next : (past : List Entry) (tag : ℕ) (entry : Entry) → state_after tag (state_of past tag) entry ≡ state_of (entry ∷ past) tag
@@ -128,6 +129,7 @@ phase_after_of_kind tag p (Recover t) = refl
 phase_after_of_kind tag p (Reissue t) = refl
 phase_after_of_kind tag p (Collect t) = refl
 phase_after_of_kind tag p (Unqueued command) = refl
+phase_after_of_kind tag p (Zero lba sectors) = refl
 
 -- a tag of which an event speaks that may come is below the depth
 in_phase : (s d : ℕ) (past : List Entry) (tag : ℕ) (p : Phase) → IsLawful s d past → d ≤ 32 → phase past tag ≡ p → p ≢ Free → tag < 32
@@ -143,3 +145,4 @@ allowed_is_low s d past (kind.Recover tag) lawful most may = in_phase s d past t
 allowed_is_low s d past (kind.Reissue tag) lawful most may = in_phase s d past tag Held lawful most may.0 (λ e. absurd (cc))
 allowed_is_low s d past (kind.Collect tag) lawful most may = in_phase s d past tag Done lawful most may (λ e. absurd (cc))
 allowed_is_low s d past (kind.Plain command) lawful most may = tt
+allowed_is_low s d past (kind.Zero lba sectors) lawful most may = tt

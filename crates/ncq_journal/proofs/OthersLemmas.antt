@@ -7,7 +7,7 @@ use Rattle.ncq_journal.specs.declared.outcome.Outcome.TheVariants as outcome
 use Rattle.ncq_journal.specs.declared.phase.Phase.{Phase}
 use Rattle.ncq_journal.specs.declared.phase.Phase.TheVariants.{Free, Issued, Accepted}
 use Rattle.ncq_journal.specs.Answer.{Answer, answer, given, completes}
-use Rattle.ncq_journal.specs.Entry.{Entry, Issue, Accept, Complete, Fail, Recover, Reissue, Collect, Unqueued}
+use Rattle.ncq_journal.specs.Entry.{Entry, Issue, Accept, Complete, Fail, Recover, Reissue, Collect, Unqueued, Zero}
 use Rattle.ncq_journal.specs.History.{entry_at}
 use Rattle.ncq_journal.specs.Lawful.{IsLawful, Fails}
 use Rattle.ncq_journal.specs.Laws.{is_answered}
@@ -109,6 +109,7 @@ others s d image past t n r newest h q other apart quiet (Some (Recover u)) e = 
 others s d image past t n r newest h q other apart quiet (Some (Reissue u)) e = silent image past n newest (ap (given image past newest) e ∙ quiet (Some (Reissue u)) (λ x work z. cc))
 others s d image past t n r newest h q other apart quiet (Some (Collect u)) e = silent image past n newest (ap (given image past newest) e ∙ quiet (Some (Collect u)) (λ x work z. cc))
 others s d image past t n r newest h q other apart quiet (Some (Unqueued c)) e = silent image past n newest (ap (given image past newest) e ∙ quiet (Some (Unqueued c)) (λ x work z. cc))
+others s d image past t n r newest h q other apart quiet (Some (Zero a b)) e = silent image past n newest (ap (given image past newest) e ∙ quiet (Some (Zero a b)) (λ x work z. cc))
 
 quiet_complete : (image : List ℕ) (past : List Entry) (t : ℕ) (o : Option Entry) → ((u : ℕ) (work : Work) → o ≢ Some (Issue u work)) → given image past (Complete t) o ≡ None
 quiet_complete image past t None h = refl
@@ -120,6 +121,7 @@ quiet_complete image past t (Some (Recover u)) h = refl
 quiet_complete image past t (Some (Reissue u)) h = refl
 quiet_complete image past t (Some (Collect u)) h = refl
 quiet_complete image past t (Some (Unqueued c)) h = refl
+quiet_complete image past t (Some (Zero a b)) h = refl
 
 quiet_fail : (image : List ℕ) (past : List Entry) (t error lba : ℕ) (o : Option Entry) → ((u : ℕ) (work : Work) → o ≢ Some (Issue u work)) → given image past (Fail t error lba) o ≡ None
 quiet_fail image past t error lba None h = refl
@@ -131,6 +133,7 @@ quiet_fail image past t error lba (Some (Recover u)) h = refl
 quiet_fail image past t error lba (Some (Reissue u)) h = refl
 quiet_fail image past t error lba (Some (Collect u)) h = refl
 quiet_fail image past t error lba (Some (Unqueued c)) h = refl
+quiet_fail image past t error lba (Some (Zero a b)) h = refl
 
 pub complete_others : (s d : ℕ) (image : List ℕ) (past : List Entry) (t n : ℕ) (r : Request) → IsLawful s d past
     → request past t ≡ Some r → n ≢ r.number → answer image (Complete t ∷ past) n ≡ answer image past n

@@ -4,7 +4,7 @@ use Rattle.std.specs.List.{sum_by}
 use Rattle.std.proofs.lemmas.Bool.{eqb-true, eq-eqb, cond-true, cond-false, ne_eqb}
 use Rattle.ncq_journal.specs.declared.phase.Phase.{Phase}
 use Rattle.ncq_journal.specs.declared.phase.Phase.TheVariants.{Free, Issued, Accepted, Held, Done}
-use Rattle.ncq_journal.specs.Entry.{Entry, Issue, Accept, Complete, Fail, Recover, Reissue, Collect, Unqueued}
+use Rattle.ncq_journal.specs.Entry.{Entry, Issue, Accept, Complete, Fail, Recover, Reissue, Collect, Unqueued, Zero}
 use Rattle.ncq_journal.specs.Halted.{tags}
 use Rattle.ncq_journal.specs.Lawful.{IsLawful, Fails}
 use Rattle.ncq_journal.specs.Laws.{OwedIsFew, OwedMoves, owed_more, owed_less}
@@ -81,3 +81,4 @@ owed_moves s d past (Reissue t) few h =
 owed_moves s d past (Collect t) few h =
     let e = step past t Done (phase (Collect t ∷ past)) Free (taken_below s d past t Done few h.0 h.1 (λ e. absurd (cc))) h.1 (λ u. refl) in omega arith
 owed_moves s d past (Unqueued command) few h = refl
+owed_moves s d past (Zero lba sectors) few h = refl

@@ -5,10 +5,10 @@ use Rattle.word_bits.specs.Places.{places, has_place}
 use Rattle.word_bits.proofs.PlacesLemmas.{has_place-places, has_place_past, length-places}
 use Rattle.ncq_journal.specs.declared.phase.Phase.{Phase}
 use Rattle.ncq_journal.specs.declared.phase.Phase.TheVariants.{Free, Issued, Accepted, Held, Done}
-use Rattle.ncq_journal.specs.Entry.{Entry, Issue, Accept, Complete, Fail, Recover, Reissue, Collect, Unqueued}
+use Rattle.ncq_journal.specs.Entry.{Entry, Issue, Accept, Complete, Fail, Recover, Reissue, Collect, Unqueued, Zero}
 use Rattle.ncq_journal.specs.Halted.{halted, busy}
-use Rattle.ncq_journal.specs.Image.{sector_at}
-use Rattle.ncq_journal.specs.Lawful.{IsAllowed, IsLawful, Fails, Fits}
+use Rattle.ncq_journal.specs.Image.{sector_at, zeroed}
+use Rattle.ncq_journal.specs.Lawful.{IsAllowed, IsLawful, MaySend, Fails, Fits}
 use Rattle.ncq_journal.specs.Laws.{AllFree, SectorsFollow, TwoParts, DeviceTagsInSact, CiInSact}
 use Rattle.ncq_journal.specs.Phase.{phase, phase_after, is_failed, is_busy}
 use Rattle.ncq_journal.specs.Request.{Request, request}
@@ -52,6 +52,7 @@ command_parts (Recover t ∷ later) past tag some = command_parts later past tag
 command_parts (Reissue t ∷ later) past tag some = command_parts later past tag some
 command_parts (Collect t ∷ later) past tag some = command_parts later past tag some
 command_parts (Unqueued c ∷ later) past tag some = command_parts later past tag some
+command_parts (Zero lba sectors ∷ later) past tag some = command_parts later past tag some
 
 pub same_command : (P : Work → Type 0) (o p : Option Request) → command o ≡ command p → IsSomeAnd o (λ r. P r.work) → IsSomeAnd p (λ r. P r.work)
 same_command P None p e h = absurd h
@@ -64,6 +65,9 @@ same_completed None (Some q) i x e = absurd (cc)
 same_completed (Some r) None i x e = absurd (cc)
 same_completed (Some r) (Some q) i x e =
     let s : r.work ≡ q.work = cc in ap (λ w. completed (Some (record { number = 0; work = w })) i x) s
+
+may_send_parts : (later past : List Entry) → AllFree past → MaySend (later ++ past) → MaySend later
+may_send_parts later past free h = (sym (halted_parts later past free) ∙ h.0, sym (busy_parts later past free) ∙ h.1)
 
 allowed_parts : (s d : ℕ) (later past : List Entry) (entry : Entry) → AllFree past → IsLawful s d later → IsAllowed s d (later ++ past) entry → IsAllowed s d later entry
 allowed_parts s d later past (Issue t work) free own h = (h.0, sym (phase_parts later past t free) ∙ h.1, sym (halted_parts later past free) ∙ h.2, h.3)
@@ -81,7 +85,8 @@ allowed_parts s d later past (Fail t error lba) free own h =
 allowed_parts s d later past (Recover t) free own h = ap is_failed (sym (phase_parts later past t free)) ∙ h
 allowed_parts s d later past (Reissue t) free own h = (sym (phase_parts later past t free) ∙ h.0, sym (halted_parts later past free) ∙ h.1)
 allowed_parts s d later past (Collect t) free own h = sym (phase_parts later past t free) ∙ h
-allowed_parts s d later past (Unqueued c) free own h = (h.0, sym (halted_parts later past free) ∙ h.1, sym (busy_parts later past free) ∙ h.2)
+allowed_parts s d later past (Unqueued c) free own h = (h.0, may_send_parts later past free h.1)
+allowed_parts s d later past (Zero lba sectors) free own h = (h.0, may_send_parts later past free h.1)
 
 pub lawful_parts : (s d : ℕ) (later past : List Entry) → IsLawful s d (later ++ past) → AllFree past → IsLawful s d later
 lawful_parts s d [] past h free = tt
@@ -102,6 +107,7 @@ sector_following s d image middle (Recover t ∷ later) past h cut i = sector_fo
 sector_following s d image middle (Reissue t ∷ later) past h cut i = sector_following s d image middle later past h.0 cut i
 sector_following s d image middle (Collect t ∷ later) past h cut i = sector_following s d image middle later past h.0 cut i
 sector_following s d image middle (Unqueued c ∷ later) past h cut i = sector_following s d image middle later past h.0 cut i
+sector_following s d image middle (Zero lba sectors ∷ later) past h cut i = ap (zeroed lba sectors i) (sector_following s d image middle later past h.0 cut i)
 
 pub two_parts : TwoParts
 two_parts s d image middle later past h free cut =

@@ -2,8 +2,9 @@
 use Rattle.std.proofs.Common.{◌≡◌, ◌≢◌, ℕ, ◌+◌, ◌*◌, ◌<◌, ◌≤◌, List, [], ◌∷◌, length, set, ◌/◌, take, ap, sym, refl, subst, ◌∙◌, Option, Some, get_or, arith}
 use Rattle.ncq_journal.specs.declared.outcome.Outcome.TheVariants as outcome
 use Rattle.ncq_journal.specs.Answer.{Answer}
-use Rattle.ncq_journal.specs.Entry.{Entry, entry_of, Issue, Complete, Fail}
+use Rattle.ncq_journal.specs.Entry.{Entry, entry_of, Issue, Complete, Fail, Zero}
 use Rattle.ncq_journal.specs.History.{history_of}
+use Rattle.ncq_journal.specs.Image.{IsZeroedOver}
 use Rattle.ncq_journal.specs.Lawful.{IsAllowed, IsLawful}
 use Rattle.ncq_journal.specs.Phase.{phase}
 use Rattle.ncq_journal.specs.Request.{Request, request}
@@ -13,7 +14,7 @@ use Rattle.ncq_journal.specs.declared.event.Event.{Event}
 use Rattle.ncq_journal.specs.declared.event.Event.TheVariants as code
 use Rattle.ncq_journal.specs.declared.op.Op.{Op}
 use Rattle.ncq_journal.specs.Passing.{IsPassed, IsImageAfter, completed_over}
-use Rattle.ncq_journal.proofs.PassLemmas.{IsEnding, IsMoving, IsNext, accepted_taken, ending, moving, next_is, not_issue, passed_complete, passed_fail, passed_issue, passed_quiet}
+use Rattle.ncq_journal.proofs.PassLemmas.{IsEnding, IsMoving, IsNext, accepted_taken, ending, moving, next_is, not_issue, passed_complete, passed_fail, passed_issue, passed_quiet, passed_zero}
 
 -- an event of a pass
 pub record IsAt {A : _} (image : List ℕ) (events : List (Event A)) (depth i : ℕ) (event : Event A) : Type 0 where
@@ -121,11 +122,35 @@ not_fail : {A : _} (event : Event A) → ((x y z : ℕ) → event ≡ code.Fail 
 not_fail (code.Fail t a b) h u error lba e = h t a b refl
 not_fail _ h u error lba e = cc
 
+not_zero : {A : _} (event : Event A) → ((x y : ℕ) → event ≡ code.Zero x y → ⊥) → (lba sectors : ℕ) → entry_of event ≢ Zero lba sectors
+not_zero (code.Zero a b) h lba sectors e = h a b refl
+not_zero _ h lba sectors e = cc
+
+-- the sectors that become zeros are sectors of the image
+pub zero_fits : {A : _} (image : List ℕ) (events : List (Event A)) (depth i : ℕ) (event : Event A) (lba sectors : ℕ) (now : List ℕ)
+    (requests : List (Option ℕ)) (answers : List (Option Answer)) → IsAt image events depth i event → event ≡ code.Zero lba sectors
+    → IsPassed image (history_of (take i events)) (length events) depth now requests answers → 512 * (lba + sectors) ≤ length now
+zero_fits image events depth i event lba sectors now requests answers a e p =
+    let n = next_at image events depth i event a in
+    let may = allowed_as (length image / 512) depth (history_of (take i events)) event (code.Zero lba sectors) e n.allowed in
+    let fits : lba + sectors ≤ length image / 512 = may.0.1 in
+    let whole = a.whole in
+    let size = p.size in omega arith
+
+pub zero_next : {A : _} (image : List ℕ) (events : List (Event A)) (depth i : ℕ) (event : Event A) (lba sectors : ℕ) (now new : List ℕ)
+    (requests : List (Option ℕ)) (answers : List (Option Answer)) → IsAt image events depth i event → event ≡ code.Zero lba sectors
+    → length new ≡ length now → IsZeroedOver lba sectors now new
+    → IsPassed image (history_of (take i events)) (length events) depth now requests answers → IsPassed image (history_of (take (i + 1) events)) (length events) depth new requests answers
+zero_next image events depth i event lba sectors now new requests answers a e len zeros p =
+    let n = next_at image events depth i event a in
+    subst (λ h. IsPassed image h (length events) depth new requests answers) (more_as events i event (code.Zero lba sectors) _ e n.more)
+    (passed_zero image (history_of (take i events)) (length events) depth lba sectors now new requests answers len zeros p)
+
 pub quiet_next : {A : _} (image : List ℕ) (events : List (Event A)) (depth i : ℕ) (event : Event A) (now : List ℕ) (requests : List (Option ℕ)) (answers : List (Option Answer))
     → IsAt image events depth i event
-    → ((x : ℕ) (op : Op A) → event ≡ code.Issue x op → ⊥) → ((x : ℕ) → event ≡ code.Complete x → ⊥) → ((x y z : ℕ) → event ≡ code.Fail x y z → ⊥)
+    → ((x : ℕ) (op : Op A) → event ≡ code.Issue x op → ⊥) → ((x : ℕ) → event ≡ code.Complete x → ⊥) → ((x y z : ℕ) → event ≡ code.Fail x y z → ⊥) → ((x y : ℕ) → event ≡ code.Zero x y → ⊥)
     → IsPassed image (history_of (take i events)) (length events) depth now requests answers → IsPassed image (history_of (take (i + 1) events)) (length events) depth now requests answers
-quiet_next image events depth i event now requests answers a x y z p =
+quiet_next image events depth i event now requests answers a x y z w p =
     let n = next_at image events depth i event a in
     subst (λ h. IsPassed image h (length events) depth now requests answers) (sym n.more)
-    (passed_quiet image (history_of (take i events)) (length events) depth (entry_of event) now requests answers (quiet_entry event x) (not_complete event y) (not_fail event z) p)
+    (passed_quiet image (history_of (take i events)) (length events) depth (entry_of event) now requests answers (quiet_entry event x) (not_complete event y) (not_fail event z) (not_zero event w) p)

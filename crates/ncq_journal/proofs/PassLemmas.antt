@@ -6,7 +6,7 @@ use Rattle.std.proofs.lemmas.Option.{same_Some, slice_get_read}
 use Rattle.ncq_journal.specs.declared.outcome.Outcome.TheVariants as outcome
 use Rattle.ncq_journal.specs.declared.phase.Phase.TheVariants.{Free, Accepted}
 use Rattle.ncq_journal.specs.Answer.{Answer, answer, completes}
-use Rattle.ncq_journal.specs.Entry.{Entry, entry_of, Issue, Accept, Complete, Fail, Recover, Reissue, Collect, Unqueued}
+use Rattle.ncq_journal.specs.Entry.{Entry, entry_of, Issue, Accept, Complete, Fail, Recover, Reissue, Collect, Unqueued, Zero}
 use Rattle.ncq_journal.specs.History.{entry_at, history_of}
 use Rattle.ncq_journal.specs.Lawful.{IsAllowed, IsLawful, IsProper, IsWhole, Fits, end_of}
 use Rattle.ncq_journal.specs.Phase.{phase}
@@ -21,7 +21,7 @@ use Rattle.ncq_journal.proofs.PhaseLemmas.{accepted_fits, below_depth, owned_has
 use Rattle.ncq_journal.specs.declared.event.Event.{Event}
 use Rattle.ncq_journal.specs.declared.event.Event.TheVariants as code
 use Rattle.ncq_journal.specs.declared.op.Op.{Op}
-use Rattle.ncq_journal.specs.Image.{sector_at, covers, is_write, written_at}
+use Rattle.ncq_journal.specs.Image.{sector_at, covers, is_write, written_at, zeroed, IsZeroedOver}
 use Rattle.ncq_journal.specs.Passing.{IsPassed, IsImageAfter, completed_over}
 use Rattle.ncq_journal.specs.Sector.{sector, completed}
 use Rattle.ncq_journal.proofs.ImageLemmas.{joined-sectors}
@@ -222,20 +222,34 @@ next_is s d events i event low e h = record {
   len = length_history (take i events) ∙ length-take-le i events (omega arith);
 }
 
+-- sectors become zeros
+pub passed_zero : (image : List ℕ) (past : List Entry) (total depth lba sectors : ℕ) (now new : List ℕ) (requests : List (Option ℕ)) (answers : List (Option Answer))
+    → length new ≡ length now → IsZeroedOver lba sectors now new → IsPassed image past total depth now requests answers
+    → IsPassed image (Zero lba sectors ∷ past) total depth new requests answers
+passed_zero image past total depth lba sectors now new requests answers len zeros p = record {
+  size = len ∙ p.size;
+  sectors = λ s. zeros s ∙ ap (zeroed lba sectors s) (p.sectors s);
+  tags = p.tags;
+  numbers = p.numbers;
+  count = p.count;
+  each = λ n low. p.each n low ∙ sym (silent image past n (Zero lba sectors) refl);
+}
+
 -- an entry that moves nothing
 pub passed_quiet : (image : List ℕ) (past : List Entry) (total depth : ℕ) (newest : Entry) (now : List ℕ) (requests : List (Option ℕ)) (answers : List (Option Answer))
-    → ((u : ℕ) (work : Work) → newest ≢ Issue u work) → ((u : ℕ) → newest ≢ Complete u) → ((u error lba : ℕ) → newest ≢ Fail u error lba)
+    → ((u : ℕ) (work : Work) → newest ≢ Issue u work) → ((u : ℕ) → newest ≢ Complete u) → ((u error lba : ℕ) → newest ≢ Fail u error lba) → ((lba sectors : ℕ) → newest ≢ Zero lba sectors)
     → IsPassed image past total depth now requests answers → IsPassed image (newest ∷ past) total depth now requests answers
-passed_quiet image past total depth (Issue t work) now requests answers i c f p = absurd (i t work refl)
-passed_quiet image past total depth (Complete t) now requests answers i c f p = absurd (c t refl)
-passed_quiet image past total depth (Fail t error lba) now requests answers i c f p = absurd (f t error lba refl)
-passed_quiet image past total depth (Accept t) now requests answers i c f p =
+passed_quiet image past total depth (Issue t work) now requests answers i c f z p = absurd (i t work refl)
+passed_quiet image past total depth (Complete t) now requests answers i c f z p = absurd (c t refl)
+passed_quiet image past total depth (Fail t error lba) now requests answers i c f z p = absurd (f t error lba refl)
+passed_quiet image past total depth (Accept t) now requests answers i c f z p =
     record { size = p.size; sectors = p.sectors; tags = p.tags; numbers = p.numbers; count = p.count; each = λ n low. p.each n low ∙ sym (silent image past n (Accept t) refl) }
-passed_quiet image past total depth (Recover t) now requests answers i c f p =
+passed_quiet image past total depth (Recover t) now requests answers i c f z p =
     record { size = p.size; sectors = p.sectors; tags = p.tags; numbers = p.numbers; count = p.count; each = λ n low. p.each n low ∙ sym (silent image past n (Recover t) refl) }
-passed_quiet image past total depth (Reissue t) now requests answers i c f p =
+passed_quiet image past total depth (Reissue t) now requests answers i c f z p =
     record { size = p.size; sectors = p.sectors; tags = p.tags; numbers = p.numbers; count = p.count; each = λ n low. p.each n low ∙ sym (silent image past n (Reissue t) refl) }
-passed_quiet image past total depth (Collect t) now requests answers i c f p =
+passed_quiet image past total depth (Collect t) now requests answers i c f z p =
     record { size = p.size; sectors = p.sectors; tags = p.tags; numbers = p.numbers; count = p.count; each = λ n low. p.each n low ∙ sym (silent image past n (Collect t) refl) }
-passed_quiet image past total depth (Unqueued command) now requests answers i c f p =
+passed_quiet image past total depth (Unqueued command) now requests answers i c f z p =
     record { size = p.size; sectors = p.sectors; tags = p.tags; numbers = p.numbers; count = p.count; each = λ n low. p.each n low ∙ sym (silent image past n (Unqueued command) refl) }
+passed_quiet image past total depth (Zero lba sectors) now requests answers i c f z p = absurd (z lba sectors refl)

@@ -3,7 +3,7 @@ use Rattle.std.proofs.Common.{◌≡◌, ◌≢◌, true≢false, eq-eqb, ℕ, �
 use Rattle.std.proofs.lemmas.Bool.{cond_both, eqb-true, eqb-false, false≢true, cases_lt}
 use Rattle.ncq_journal.specs.declared.phase.Phase.{Phase}
 use Rattle.ncq_journal.specs.declared.phase.Phase.TheVariants.{Free, Issued, Accepted, Held, Done}
-use Rattle.ncq_journal.specs.Entry.{Entry, Issue, Accept, Complete, Fail, Recover, Reissue, Collect, Unqueued}
+use Rattle.ncq_journal.specs.Entry.{Entry, Issue, Accept, Complete, Fail, Recover, Reissue, Collect, Unqueued, Zero}
 use Rattle.ncq_journal.specs.Lawful.{IsLawful, Fails, Fits}
 use Rattle.ncq_journal.specs.Laws.{OwnedHasRequest}
 use Rattle.ncq_journal.specs.Phase.{phase, failed, recovered, is_failed}
@@ -60,6 +60,7 @@ free_while s d tag Q older other (Reissue t ∷ past) h q =
 free_while s d tag Q older other (Collect t ∷ past) h q =
     cond_at t tag Free (phase past tag) (λ p. p ≡ Free) (λ _. refl) (λ _. free_while s d tag Q older other past h.0 (older _ past q))
 free_while s d tag Q older other (Unqueued command ∷ past) h q = free_while s d tag Q older other past h.0 (older _ past q)
+free_while s d tag Q older other (Zero lba sectors ∷ past) h q = free_while s d tag Q older other past h.0 (older _ past q)
 
 -- a tag at or above the depth is free
 pub free_past_depth : (s d : ℕ) (past : List Entry) (tag : ℕ) → IsLawful s d past → d ≤ tag → phase past tag ≡ Free
@@ -128,6 +129,7 @@ accepted_fits s d (Recover t ∷ past) tag h e = absurd (not_accepted (phase pas
 accepted_fits s d (Reissue t ∷ past) tag h e = accepted_fits s d past tag h.0 (was_accepted t tag Issued (phase past tag) (λ z. absurd (cc)) e)
 accepted_fits s d (Collect t ∷ past) tag h e = accepted_fits s d past tag h.0 (was_accepted t tag Free (phase past tag) (λ z. absurd (cc)) e)
 accepted_fits s d (Unqueued command ∷ past) tag h e = accepted_fits s d past tag h.0 e
+accepted_fits s d (Zero lba sectors ∷ past) tag h e = accepted_fits s d past tag h.0 e
 
 -- a tag that isn't free is below the depth
 pub below_depth : (s d : ℕ) (past : List Entry) (tag : ℕ) (p : Phase) → IsLawful s d past → phase past tag ≡ p → p ≢ Free → tag < d

@@ -1,5 +1,6 @@
 -- What one atomic step of the port adds to its journal. Numbers are tags, errors and LBAs. A command that is not queued
--- is the code's Event::Plain.
+-- is the code's Event::Plain, and one that makes so many sectors from an LBA on zeros (ACS-3, DATA SET MANAGEMENT with TRIM)
+-- its Event::Zero.
 use Rattle.std.specs.Prelude.{ℕ}
 use Rattle.ncq_journal.specs.declared.plain.Plain.{Plain}
 use Rattle.ncq_journal.specs.declared.event.Event.{Event}
@@ -15,6 +16,7 @@ pub data Entry : Type 0 where
   Reissue : (tag : ℕ) → Entry
   Collect : (tag : ℕ) → Entry
   Unqueued : (command : Plain) → Entry
+  Zero : (lba sectors : ℕ) → Entry
 
 -- what the code's event records
 abbrev pub entry_of : {A : _} → Event A → Entry
@@ -26,3 +28,4 @@ entry_of (code.Recover tag) = Recover tag
 entry_of (code.Reissue tag) = Reissue tag
 entry_of (code.Collect tag) = Collect tag
 entry_of (code.Plain command) = Unqueued command
+entry_of (code.Zero lba sectors) = Zero lba sectors

@@ -1,6 +1,6 @@
 -- What an event says without the bytes of a write. When an event may come depends on no more.
 use Rattle.std.specs.Prelude.{ℕ, ◌*◌, ◌<◌, Bool, List, map, replicate, reverse, take, slice_get, IsSomeAnd, if◌then◌else◌}
-use Rattle.ncq_journal.specs.Entry.{Entry, Issue, Accept, Complete, Fail, Recover, Reissue, Collect, Unqueued}
+use Rattle.ncq_journal.specs.Entry.{Entry, Issue, Accept, Complete, Fail, Recover, Reissue, Collect, Unqueued, Zero}
 use Rattle.ncq_journal.specs.Image.{is_write}
 use Rattle.ncq_journal.specs.Lawful.{IsAllowed, IsLawful}
 use Rattle.ncq_journal.specs.Work.{Work, Read, Write, lba_of, sectors_of}
@@ -17,6 +17,7 @@ kind_of (Recover tag) = kind.Recover tag
 kind_of (Reissue tag) = kind.Reissue tag
 kind_of (Collect tag) = kind.Collect tag
 kind_of (Unqueued command) = kind.Plain command
+kind_of (Zero lba sectors) = kind.Zero lba sectors
 
 -- a command over some sectors: zeros stand for the bytes of a write
 abbrev pub work_over : (write : Bool) → (lba sectors : ℕ) → Work
@@ -32,6 +33,7 @@ entry_of_kind (kind.Recover tag) = Recover tag
 entry_of_kind (kind.Reissue tag) = Reissue tag
 entry_of_kind (kind.Collect tag) = Collect tag
 entry_of_kind (kind.Plain command) = Unqueued command
+entry_of_kind (kind.Zero lba sectors) = Zero lba sectors
 
 -- the tag that an event names is one of 32
 abbrev pub HasLowTag : EventKind → Type 0
@@ -43,6 +45,7 @@ HasLowTag (kind.Recover tag) = tag < 32
 HasLowTag (kind.Reissue tag) = tag < 32
 HasLowTag (kind.Collect tag) = tag < 32
 HasLowTag (kind.Plain command) = Unit {0}
+HasLowTag (kind.Zero lba sectors) = Unit {0}
 
 -- the journal of things that each name an event, the oldest first
 abbrev pub journal_of : {X : Type 0} → (X → EventKind) → List X → List Entry

@@ -1,11 +1,11 @@
 -- Which journals can come about on a port of a disk with so many sectors and so many slots
--- (AHCI 1.3.1, "Native Command Queuing" and section 6.2.2; ACS-3, READ and WRITE FPDMA QUEUED).
+-- (AHCI 1.3.1, "Native Command Queuing" and section 6.2.2; ACS-3, READ and WRITE FPDMA QUEUED, DATA SET MANAGEMENT).
 use Rattle.std.specs.Prelude.{◌≡◌, ℕ, ◌+◌, ◌*◌, ◌/◌, ◌^◌, ◌<◌, ◌≤◌, max, true, false, List, [], ◌∷◌, length, IsSomeAnd, IsTrue, All}
 use Rattle.ncq_journal.specs.declared.phase.Phase.{Phase}
 use Rattle.ncq_journal.specs.declared.phase.Phase.TheVariants.{Free, Issued, Accepted, Held, Done}
 use Rattle.ncq_journal.specs.declared.plain.Plain.{Plain}
 use Rattle.ncq_journal.specs.declared.plain.Plain.TheVariants.{Identify, Flush, ReadLog}
-use Rattle.ncq_journal.specs.Entry.{Entry, Issue, Accept, Complete, Fail, Recover, Reissue, Collect, Unqueued}
+use Rattle.ncq_journal.specs.Entry.{Entry, Issue, Accept, Complete, Fail, Recover, Reissue, Collect, Unqueued, Zero}
 use Rattle.ncq_journal.specs.Halted.{halted, busy}
 use Rattle.ncq_journal.specs.Image.{covers}
 use Rattle.ncq_journal.specs.Phase.{phase, is_failed}
@@ -66,6 +66,14 @@ MayAccept s past t = (phase past t ≡ Issued) × (halted past ≡ false) × IsS
 abbrev pub MayFail : ℕ → List Entry → ℕ → ℕ → ℕ → Type 0
 MayFail s past t error lba = (halted past ≡ false) × IsSomeAnd (request past t) (λ r. Fails s (phase past t) r.work error lba)
 
+-- a command that is not queued may be sent: the port runs, and no tag waits for the device or is outstanding in it
+abbrev pub MaySend : List Entry → Type 0
+MaySend past = (halted past ≡ false) × (busy past ≡ false)
+
+-- so many sectors from an LBA on, at least one, are sectors of a disk of s sectors
+abbrev pub LieOn : (s lba sectors : ℕ) → Type 0
+LieOn s lba sectors = (1 ≤ sectors) × (lba + sectors ≤ s)
+
 -- this entry may come next after the journal, on a disk of s sectors with d slots
 abbrev pub IsAllowed : ℕ → ℕ → List Entry → Entry → Type 0
 IsAllowed s d past (Issue t work) = MayIssue d past t work
@@ -75,7 +83,8 @@ IsAllowed s d past (Fail t error lba) = MayFail s past t error lba
 IsAllowed s d past (Recover t) = is_failed (phase past t) ≡ true
 IsAllowed s d past (Reissue t) = (phase past t ≡ Held) × (halted past ≡ false)
 IsAllowed s d past (Collect t) = phase past t ≡ Done
-IsAllowed s d past (Unqueued command) = IsJournalled command × (halted past ≡ false) × (busy past ≡ false)
+IsAllowed s d past (Unqueued command) = IsJournalled command × MaySend past
+IsAllowed s d past (Zero lba sectors) = LieOn s lba sectors × MaySend past
 
 -- each entry was allowed by those before it
 abbrev pub IsLawful : ℕ → ℕ → List Entry → Type 0

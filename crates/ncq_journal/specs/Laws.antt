@@ -8,10 +8,10 @@ use Rattle.ncq_journal.specs.declared.outcome.Outcome.TheVariants as outcome
 use Rattle.ncq_journal.specs.declared.phase.Phase.{Phase}
 use Rattle.ncq_journal.specs.declared.phase.Phase.TheVariants.{Free, Issued, Accepted, Held}
 use Rattle.ncq_journal.specs.Answer.{Answer, answer, sectors_at}
-use Rattle.ncq_journal.specs.Entry.{Entry, Issue, Accept, Complete, Fail, Recover, Reissue, Collect, Unqueued}
+use Rattle.ncq_journal.specs.Entry.{Entry, Issue, Accept, Complete, Fail, Recover, Reissue, Collect, Unqueued, Zero}
 use Rattle.ncq_journal.specs.Halted.{tags, halted, busy}
 use Rattle.ncq_journal.specs.History.{entry_at, first_of}
-use Rattle.ncq_journal.specs.Image.{sector_at, covers, written_at, is_write}
+use Rattle.ncq_journal.specs.Image.{sector_at, covers, written_at, is_write, is_within, zero_sector}
 use Rattle.ncq_journal.specs.Lawful.{IsAllowed, IsLawful}
 use Rattle.ncq_journal.specs.Numbering.{number_of, entry_numbered, request_numbered, answer_numbered}
 use Rattle.ncq_journal.specs.Owed.{owed}
@@ -76,6 +76,7 @@ MovesOwed past (Recover t) = owed (Recover t ∷ past) ≡ owed past + sum_by (�
 MovesOwed past (Reissue t) = owed (Reissue t ∷ past) + 1 ≡ owed past
 MovesOwed past (Collect t) = owed (Collect t ∷ past) + 1 ≡ owed past
 MovesOwed past (Unqueued command) = owed (Unqueued command ∷ past) ≡ owed past
+MovesOwed past (Zero lba sectors) = owed (Zero lba sectors ∷ past) ≡ owed past
 
 abbrev pub OwedMoves : Type 0
 OwedMoves = (s d : ℕ) (past : List Entry) (entry : Entry) → d ≤ 32 → IsLawful s d (entry ∷ past) → MovesOwed past entry
@@ -86,15 +87,22 @@ WritesItsSectors =
     (image : List ℕ) (past : List Entry) (tag : ℕ) (r : Request) (s : ℕ) → request past tag ≡ Some r → is_write r.work ≡ true
     → sector image (Complete tag ∷ past) s ≡ (if covers r.work s then written_at r.work s else sector image past s)
 
--- the entry completes a write
-abbrev pub completes_write : List Entry → Entry → Bool
-completes_write past (Complete t) = elim (request past t) [ None ↦ false | Some r ↦ is_write r.work ]
-completes_write past entry = false
+-- a Zero changes exactly its sectors, each of which has 512 zeros then
+abbrev pub ZeroesItsSectors : Type 0
+ZeroesItsSectors =
+    (image : List ℕ) (past : List Entry) (lba sectors s : ℕ)
+    → sector image (Zero lba sectors ∷ past) s ≡ (if is_within lba sectors s then zero_sector else sector image past s)
+
+-- the entry completes a write, or makes sectors zeros
+abbrev pub changes_sectors : List Entry → Entry → Bool
+changes_sectors past (Complete t) = elim (request past t) [ None ↦ false | Some r ↦ is_write r.work ]
+changes_sectors past (Zero lba sectors) = true
+changes_sectors past entry = false
 
 -- every other entry changes no sector
 abbrev pub OthersWriteNothing : Type 0
 OthersWriteNothing =
-    (image : List ℕ) (past : List Entry) (entry : Entry) (s : ℕ) → completes_write past entry ≡ false → sector image (entry ∷ past) s ≡ sector image past s
+    (image : List ℕ) (past : List Entry) (entry : Entry) (s : ℕ) → changes_sectors past entry ≡ false → sector image (entry ∷ past) s ≡ sector image past s
 
 -- the request ended with an error
 abbrev pub is_failure : Outcome → Bool

@@ -2,7 +2,7 @@
 use Rattle.std.specs.Prelude.{ℕ, ◌==◌, if◌then◌else◌, Bool, true, false, List, [], ◌∷◌}
 use Rattle.ncq_journal.specs.declared.phase.Phase.{Phase}
 use Rattle.ncq_journal.specs.declared.phase.Phase.TheVariants.{Free, Issued, Accepted, Rejected, Broken, Held, Done}
-use Rattle.ncq_journal.specs.Entry.{Entry, Issue, Accept, Complete, Fail, Recover, Reissue, Collect, Unqueued}
+use Rattle.ncq_journal.specs.Entry.{Entry, Issue, Accept, Complete, Fail, Recover, Reissue, Collect, Unqueued, Zero}
 
 -- an error before acceptance rejects the command, and one after it breaks it
 abbrev pub failed : Phase → Phase
@@ -27,6 +27,7 @@ phase_after tag p (Fail t error lba) = if t == tag then failed p else p
 phase_after tag p (Recover t) = recovered p
 phase_after tag p (Collect t) = if t == tag then Free else p
 phase_after tag p (Unqueued command) = p
+phase_after tag p (Zero lba sectors) = p
 
 -- the phase of a tag after a journal; at first every tag is free
 abbrev pub phase : List Entry → ℕ → Phase

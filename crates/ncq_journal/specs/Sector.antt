@@ -1,7 +1,7 @@
--- The bytes of one sector after a journal: those of the last write that was completed over it, else the image's.
+-- The bytes of one sector after a journal: zeros, or those of a write that was completed over it, whichever came last, else the image's.
 use Rattle.std.specs.Prelude.{ℕ, ◌&&◌, if◌then◌else◌, List, [], ◌∷◌, Option, None, Some}
-use Rattle.ncq_journal.specs.Entry.{Entry, Complete}
-use Rattle.ncq_journal.specs.Image.{sector_at, covers, written_at, is_write}
+use Rattle.ncq_journal.specs.Entry.{Entry, Complete, Zero}
+use Rattle.ncq_journal.specs.Image.{sector_at, covers, written_at, is_write, zeroed}
 use Rattle.ncq_journal.specs.Request.{Request, request}
 
 -- a sector once this request is completed, where its bytes were these before
@@ -13,4 +13,5 @@ completed (Some r) s before = if is_write r.work && covers r.work s then written
 abbrev pub sector : List ℕ → List Entry → ℕ → List ℕ
 sector image [] s = sector_at image s
 sector image (Complete t ∷ past) s = completed (request past t) s (sector image past s)
+sector image (Zero lba sectors ∷ past) s = zeroed lba sectors s (sector image past s)
 sector image (entry ∷ past) s = sector image past s

@@ -25,6 +25,9 @@ pub enum Event<A: Allocator = Global> {
     Collect(u8),
     /// A command that is not queued, from beginning to end.
     Plain(Plain),
+    /// The device makes so many sectors from an LBA on zeros, by a command that is not queued (ACS-3, DATA SET MANAGEMENT with
+    /// TRIM), from beginning to end.
+    Zero { lba: u64, sectors: u32 },
 }
 
 impl<A: Allocator> Event<A> {
@@ -52,6 +55,10 @@ impl<A: Allocator> Event<A> {
             Event::Reissue(tag) => EventKind::Reissue(*tag),
             Event::Collect(tag) => EventKind::Collect(*tag),
             Event::Plain(command) => EventKind::Plain(*command),
+            Event::Zero { lba, sectors } => EventKind::Zero {
+                lba: *lba,
+                sectors: *sectors,
+            },
         }
     }
 }

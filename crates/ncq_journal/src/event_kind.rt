@@ -30,6 +30,11 @@ pub enum EventKind {
     Collect(u8),
     /// A command that is not queued.
     Plain(Plain),
+    /// A command that is not queued makes so many sectors from an LBA on zeros.
+    Zero {
+        lba: u64,
+        sectors: u32,
+    },
 }
 
 /// What names an event of a journal, as a host's own form of one.
@@ -62,7 +67,7 @@ pub(crate) fn has_low_tag(kind: EventKind) -> bool
         | EventKind::Recover(tag)
         | EventKind::Reissue(tag)
         | EventKind::Collect(tag) => tag < 32,
-        EventKind::Plain(_) => true,
+        EventKind::Plain(_) | EventKind::Zero { .. } => true,
     }
 }
 

@@ -3,7 +3,7 @@
 ghost use Rattle.std.specs.Prelude.{◌↔◌, ◌≤◌, IsTrue};
 ghost use Rattle.ncq_journal.specs.Entry.{entry_of};
 ghost use Rattle.ncq_journal.specs.History.{history_of};
-ghost use Rattle.ncq_journal.specs.Lawful.{AllProper, IsAllowed, IsLawful, IsProper, MayIssue, MayAccept, MayFail, Fails, Refuses};
+ghost use Rattle.ncq_journal.specs.Lawful.{AllProper, IsAllowed, IsLawful, IsProper, MayIssue, MayAccept, MayFail, MaySend, Fails, LieOn, Refuses};
 ghost use Rattle.ncq_journal.specs.Work.{work_of};
 
 use crate::event::Event;
@@ -53,6 +53,21 @@ fn may_accept<A: Allocator>(sectors: u32, past: &[Event<A>], tag: u8) -> bool
         && request.op().sectors() <= u64::from(sectors) - request.op().lba()
 }
 
+/// Whether a command that is not queued may be sent: the port runs, and no tag waits for the device or is outstanding in it.
+fn may_send<A: Allocator>(past: &[Event<A>]) -> bool
+    ensures { IsTrue result ↔ MaySend (history_of past.now) }
+{
+    !is_halted(past) && !is_busy(past)
+}
+
+/// Whether so many sectors from an LBA on, at least one, are sectors of a disk of `size` sectors.
+pub fn lie_on(size: u32, lba: u64, sectors: u32) -> bool
+    ensures { IsTrue result ↔ LieOn size lba sectors }
+{
+    let size = u64::from(size);
+    sectors >= 1 && lba <= size && u64::from(sectors) <= size - lba
+}
+
 /// Whether the event may come next after these, the oldest first, on a disk of so many sectors with so many slots, at
 /// most 32.
 pub fn is_allowed<A: Allocator>(
@@ -72,9 +87,11 @@ pub fn is_allowed<A: Allocator>(
         Event::Recover(tag) => phase_of(past, *tag).is_failed(),
         Event::Reissue(tag) => phase_of(past, *tag) == Phase::Held && !is_halted(past),
         Event::Collect(tag) => phase_of(past, *tag) == Phase::Done,
-        Event::Plain(command) => {
-            *command != Plain::ReadLog && !is_halted(past) && !is_busy(past)
-        }
+        Event::Plain(command) => *command != Plain::ReadLog && may_send(past),
+        Event::Zero {
+            lba,
+            sectors: count,
+        } => lie_on(sectors, *lba, *count) && may_send(past),
     }
 }
 

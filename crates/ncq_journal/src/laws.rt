@@ -1,6 +1,6 @@
 //! Laws: each function is empty, and its clause holds of all journals.
 ghost use Rattle.ncq_journal.specs.Laws.{LawfulAtEach, FreePastDepth, OwnedHasRequest, RequestIsItsIssue, AnsweredByPhase, OwedIsFew, OwedMoves};
-ghost use Rattle.ncq_journal.specs.Laws.{WritesItsSectors, OthersWriteNothing, CompletedIsAnswered, FailedIsNotCompleted, CompletedHasThisAnswer};
+ghost use Rattle.ncq_journal.specs.Laws.{WritesItsSectors, ZeroesItsSectors, OthersWriteNothing, CompletedIsAnswered, FailedIsNotCompleted, CompletedHasThisAnswer};
 ghost use Rattle.ncq_journal.specs.Laws.{FailedHasThisAnswer, UnansweredIsLast, OneHasFailed, HaltedByATag, BusyByATag, DeviceTagsInSact, CiInSact, SectorsFollow, AnswersFollow, AnswersStay, TwoParts};
 ghost use Rattle.ncq_journal.specs.Laws.{PhaseOfParts, SaidOfLater, LawfulOfParts, RequestOfParts, AnswerOfParts, AnswerOfEarlier};
 ghost use Rattle.ncq_journal.specs.Laws.{NumberOfPlace, NoneBelowFirst, NoneFromEnd, NumbersDiffer};
@@ -35,14 +35,15 @@ pub fn what_requests_need_is_bounded()
     ensures moves { OwedMoves }
 {}
 
-/// A completed write changes exactly its sectors, and every other entry changes none.
-pub fn only_a_completed_write_changes_sectors()
+/// A completed write and a Zero change exactly their sectors, and every other entry changes none.
+pub fn only_a_completed_write_or_a_zero_changes_sectors()
     ensures write { WritesItsSectors }
+    ensures zero { ZeroesItsSectors }
     ensures others { OthersWriteNothing }
 {}
 
-/// Each Complete answers the request whose command it completes, and not with an error. Since only the Complete of a
-/// write changes a sector, a command that failed has changed none: no Complete carries a request that was answered with
+/// Each Complete answers the request whose command it completes, and not with an error. Since of all queued commands
+/// only the Complete of a write changes a sector, one that failed has changed none: no Complete carries a request that was answered with
 /// an error.
 pub fn a_failed_command_has_changed_no_sector()
     ensures completed { CompletedIsAnswered }

@@ -30,14 +30,16 @@ pub use event::Event;
 pub use event_kind::{EventKind, NamesEvent};
 pub use halted::{is_busy, is_halted};
 pub use journal::{Journal, entry_in};
-pub use lawful::{LBA_LIMIT, MAX_COUNT, is_allowed, is_lawful, is_proper};
+pub use lawful::{LBA_LIMIT, MAX_COUNT, is_allowed, is_lawful, is_proper, lie_on};
 pub use op::Op;
 pub use outcome::Outcome;
 pub use owed::owed_by;
 pub use phase::{Phase, phase_after, phase_of};
 pub use plain::Plain;
 pub use request::{Request, request_of};
-pub use sector::{is_covered, read_sectors, sector_in, sector_of, write_sectors};
+pub use sector::{
+    is_covered, is_within, read_sectors, sector_in, sector_of, write_sectors, zero_sectors, zeroed,
+};
 pub use std::alloc::AllocError as OutOfMemory;
 pub use tags::{ci_of, device_tags_of, sact_of};
 pub use unlawful::first_unlawful;

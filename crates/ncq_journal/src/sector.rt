@@ -2,7 +2,7 @@
 
 ghost use Rattle.std.specs.Prelude.{◌≡◌, ◌+◌, ◌*◌, ◌/◌, ◌≤◌, length, take, drop};
 ghost use Rattle.ncq_journal.specs.History.{history_of};
-ghost use Rattle.ncq_journal.specs.Image.{sector_at, covers, IsWrittenOver};
+ghost use Rattle.ncq_journal.specs.Image.{sector_at, covers, is_within, zero_sector, zeroed, IsWrittenOver, IsZeroedOver};
 ghost use Rattle.ncq_journal.specs.Sector.{sector, completed};
 ghost use Rattle.ncq_journal.specs.Work.{work_of};
 
@@ -42,6 +42,45 @@ pub fn write_sectors(image: &mut [u8], lba: u64, bytes: &[u8])
     image[start..end].copy_from_slice(bytes);
 }
 
+/// Makes so many sectors of an image from `lba` on zeros. Every other sector stays.
+pub fn zero_sectors(image: &mut [u8], lba: u64, sectors: u32)
+    requires { 512 * (lba + sectors) ≤ length image.old }
+    ensures len { length image.new ≡ length image.old }
+    ensures sectors { IsZeroedOver lba sectors image.old image.new }
+{
+    let start = lba as usize * 512;
+    let end = start + sectors as usize * 512;
+    image[start..end].fill(0);
+}
+
+/// Whether the sector at `lba` is one of so many from `first` on.
+pub fn is_within(first: u64, sectors: u32, lba: u64) -> bool
+    ensures { result ≡ is_within first sectors lba }
+{
+    first <= lba && lba - first < u64::from(sectors)
+}
+
+static ZERO_SECTOR: [u8; 512] = [0; 512];
+
+/// A sector of zeros.
+#[tactic(auto, unfolding(crate::specs::Image::zero_sector))]
+fn zero_sector() -> &'static [u8]
+    ensures { result.now ≡ zero_sector }
+{
+    ZERO_SECTOR.as_slice()
+}
+
+/// A sector once so many sectors from `first` on are zeros, where its bytes were `before`.
+pub fn zeroed(first: u64, sectors: u32, lba: u64, before: &[u8]) -> &[u8]
+    ensures { result.now ≡ zeroed first sectors lba before.now }
+{
+    if is_within(first, sectors, lba) {
+        zero_sector()
+    } else {
+        before
+    }
+}
+
 /// Whether the sector at `lba` is one that the command reads or writes.
 pub fn is_covered<A: Allocator>(op: &Op<A>, lba: u64) -> bool
     ensures { result ≡ covers (work_of op.now) lba }
@@ -75,8 +114,15 @@ pub fn sector_of<'a, A: Allocator>(image: &'a [u8], events: &'a [Event<A>], lba:
 {
     let mut bytes = sector_in(image, lba);
     for (number, event) in events.iter().enumerate() {
-        if let Event::Complete(tag) = event {
-            bytes = completed(request_of(&events[..number], *tag), lba, bytes);
+        match event {
+            Event::Complete(tag) => {
+                bytes = completed(request_of(&events[..number], *tag), lba, bytes);
+            }
+            Event::Zero {
+                lba: first,
+                sectors,
+            } => bytes = zeroed(*first, *sectors, lba, bytes),
+            _ => {}
         }
     }
     bytes

@@ -2,10 +2,10 @@
 //! over the events once.
 
 ghost use Rattle.std.specs.Prelude.{◌≡◌, ◌↔◌, ◌≤◌, ◌<◌, false, IsTrue, MatchOption};
-ghost use Rattle.ncq_journal.specs.{EventKind.{HasLowTag, IsFirstUnlawful, entry_of_kind, journal_of, work_over}, Halted.{busy, halted}, Lawful.{Fails, Fits, IsAllowed, IsJournalled, IsLawful, IsProper, MayAccept, MayFail, MayIssue, Refuses}, TagState.{AreStates}};
+ghost use Rattle.ncq_journal.specs.{EventKind.{HasLowTag, IsFirstUnlawful, entry_of_kind, journal_of, work_over}, Lawful.{Fails, Fits, IsAllowed, IsLawful, IsProper, MayAccept, MayFail, MayIssue, MaySend, Refuses}, TagState.{AreStates}};
 
 use crate::event_kind::{EventKind, NamesEvent, has_low_tag};
-use crate::lawful::{LBA_LIMIT, MAX_COUNT};
+use crate::lawful::{LBA_LIMIT, MAX_COUNT, lie_on};
 use crate::phase::Phase;
 use crate::plain::Plain;
 use crate::tag_state::{Span, TagState, first_states, is_busy, is_halted, state_of, states_after};
@@ -74,7 +74,11 @@ fn low_may_come<E: NamesEvent>(
             state_of(tags, past, tag).phase == Phase::Held && !is_halted(tags, past)
         }
         EventKind::Collect(tag) => state_of(tags, past, tag).phase == Phase::Done,
-        EventKind::Plain(command) => may_send(tags, past, command),
+        EventKind::Plain(command) => command != Plain::ReadLog && may_send(tags, past),
+        EventKind::Zero {
+            lba,
+            sectors: count,
+        } => lie_on(sectors, lba, count) && may_send(tags, past),
     }
 }
 
@@ -160,9 +164,9 @@ fn refuses(sectors: u32, span: Span, error: u8, lba: u64) -> bool
 }
 
 /// Whether a command that isn't queued may be sent: the port runs, and no tag waits for the device or is outstanding in it.
-fn may_send<E: NamesEvent>(tags: &[TagState; 32], past: &[E], command: Plain) -> bool
+fn may_send<E: NamesEvent>(tags: &[TagState; 32], past: &[E]) -> bool
     requires { AreStates (journal_of E.event past.now) tags.now }
-    ensures { IsTrue result ↔ IsJournalled command × (halted (journal_of E.event past.now) ≡ false) × (busy (journal_of E.event past.now) ≡ false) }
+    ensures { IsTrue result ↔ MaySend (journal_of E.event past.now) }
 {
-    command != Plain::ReadLog && !is_halted(tags, past) && !is_busy(tags, past)
+    !is_halted(tags, past) && !is_busy(tags, past)
 }

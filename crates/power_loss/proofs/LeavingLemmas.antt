@@ -1,6 +1,6 @@
 -- What an event more leaves.
 use Rattle.std.proofs.Common.{◌≡◌, ◌↔◌, ℕ, IsTrue, Bool, List, ◌∷◌, subst, sym, inl, inr}
-use Rattle.ncq_journal.specs.Entry.{Entry, Issue, Accept, Complete, Fail, Recover, Reissue, Collect, Unqueued}
+use Rattle.ncq_journal.specs.Entry.{Entry, Issue, Accept, Complete, Fail, Recover, Reissue, Collect, Unqueued, Zero}
 use Rattle.ncq_journal.specs.declared.plain.Plain.TheVariants.{Identify, Flush, ReadLog}
 use Rattle.power_loss.specs.Leaving.{DoneMayLeave, LeavesAfter, sector_from}
 
@@ -17,6 +17,8 @@ same (Collect t) past s now bytes a b f h = f h
 same (Unqueued Identify) past s now bytes a b f h = f h
 same (Unqueued Flush) past s now bytes a b f h = h
 same (Unqueued ReadLog) past s now bytes a b f h = f h
+same (Zero lba sectors) past s now bytes a b f (inl x) = inl (f x)
+same (Zero lba sectors) past s now bytes a b f (inr y) = inr y
 
 pub leaves_next : (was : List ℕ) (entry : Entry) (past next : List Entry) (s : ℕ) (now bytes : List ℕ) (may might : Bool) → next ≡ entry ∷ past → now ≡ sector_from was past s
     → (IsTrue may ↔ DoneMayLeave was past s bytes) → (IsTrue might ↔ LeavesAfter entry past s now bytes (IsTrue may)) → (IsTrue might ↔ DoneMayLeave was next s bytes)

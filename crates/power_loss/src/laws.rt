@@ -1,7 +1,7 @@
 //! What follows from the definition. The functions change nothing: each stands for its clauses.
-ghost use Rattle.std.specs.Prelude.{◌≡◌, ◌∷◌, ℕ, List, false};
-ghost use Rattle.ncq_journal.specs.Entry.{Entry, Unqueued};
-ghost use Rattle.ncq_journal.specs.Image.{sector_at};
+ghost use Rattle.std.specs.Prelude.{◌≡◌, ◌↔◌, ◌⊎◌, ◌∷◌, ℕ, List, false, true};
+ghost use Rattle.ncq_journal.specs.Entry.{Entry, Unqueued, Zero};
+ghost use Rattle.ncq_journal.specs.Image.{is_within, sector_at, zero_sector};
 ghost use Rattle.ncq_journal.specs.Phase.{is_busy, phase};
 ghost use Rattle.ncq_journal.specs.Sector.{sector};
 ghost use Rattle.ncq_journal.specs.declared.plain.Plain.TheVariants.{Flush};
@@ -21,4 +21,16 @@ pub fn a_disk_may_keep_all()
 pub fn a_flush_keeps_all()
     ensures { (was : List ℕ) (past : List Entry) (s : ℕ) (bytes : List ℕ) → ((tag : ℕ) → is_busy (phase past tag) ≡ false)
         → MayBeLeft was (Unqueued Flush ∷ past) s bytes → bytes ≡ sector_from was past s }
+{}
+
+/// Sectors that became zeros after the last flush may be zeros, or have what they might have had without that; and nothing else.
+pub fn zeros_may_be_lost()
+    ensures { (was : List ℕ) (past : List Entry) (lba sectors s : ℕ) (bytes : List ℕ)
+        → MayBeLeft was (Zero lba sectors ∷ past) s bytes ↔ (MayBeLeft was past s bytes ⊎ ((is_within lba sectors s ≡ true) × (bytes ≡ zero_sector))) }
+{}
+
+/// Right after a flush they are zeros, and nothing else, while no command is outstanding.
+pub fn a_flush_keeps_zeros()
+    ensures { (was : List ℕ) (past : List Entry) (lba sectors s : ℕ) (bytes : List ℕ) → ((tag : ℕ) → is_busy (phase past tag) ≡ false)
+        → is_within lba sectors s ≡ true → MayBeLeft was (Unqueued Flush ∷ Zero lba sectors ∷ past) s bytes → bytes ≡ zero_sector }
 {}

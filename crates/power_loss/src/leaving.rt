@@ -5,9 +5,11 @@ ghost use Rattle.ncq_journal.specs.Entry.{entry_of};
 ghost use Rattle.ncq_journal.specs.History.{history_of};
 ghost use Rattle.ncq_journal.specs.Request.{request};
 ghost use Rattle.ncq_journal.specs.Sector.{completed};
-ghost use Rattle.power_loss.specs.Leaving.{DoneMayLeave, LeavesAfter, MayBeLeft, OutstandingMayLeave, SomeMayLeave, Writes, after_entry};
+ghost use Rattle.power_loss.specs.Leaving.{DoneMayLeave, LeavesAfter, MayBeLeft, OutstandingMayLeave, SomeMayLeave, Writes, Zeroes, after_entry};
 
-use ncq_journal::{Event, Op, Plain, Request, is_covered, phase_of, request_of, sector_in};
+use ncq_journal::{
+    Event, Op, Plain, Request, is_covered, is_within, phase_of, request_of, sector_in, zeroed,
+};
 use std::alloc::Allocator;
 
 /// Whether a request is a write that has these bytes for the sector.
@@ -24,6 +26,13 @@ fn writes<A: Allocator>(request: Option<Request<A>>, lba: u64, bytes: &[u8]) -> 
         } if is_covered(request.op(), lba) => sector_in(written.as_slice(), lba - *first) == bytes,
         _ => false,
     }
+}
+
+/// Whether so many sectors from `first` on that become zeros have these bytes for the sector.
+fn zeroes(first: u64, sectors: u32, lba: u64, bytes: &[u8]) -> bool
+    ensures { IsTrue result ↔ Zeroes lba bytes.now first sectors }
+{
+    is_within(first, sectors, lba) && zeroed(first, sectors, lba, bytes) == bytes
 }
 
 /// The sector once a request is completed, where its bytes were `now`.
@@ -52,6 +61,10 @@ fn after_event<'a, A: Allocator>(
 {
     match event {
         Event::Complete(tag) => completed(request_of(before, *tag), lba, now),
+        Event::Zero {
+            lba: first,
+            sectors,
+        } => zeroed(*first, *sectors, lba, now),
         _ => now,
     }
 }
@@ -70,6 +83,10 @@ fn leaves_after<A: Allocator>(
     match event {
         Event::Complete(tag) => may || writes(request_of(before, *tag), lba, bytes),
         Event::Plain(Plain::Flush) => now == bytes,
+        Event::Zero {
+            lba: first,
+            sectors,
+        } => may || zeroes(*first, *sectors, lba, bytes),
         _ => may,
     }
 }
@@ -109,7 +126,7 @@ fn some_may_leave<A: Allocator>(events: &[Event<A>], lba: u64, bytes: &[u8]) -> 
 }
 
 /// Whether a sector may have these bytes after a loss of power, where it had the bytes `was` when the events began, the oldest of them first: what the
-/// last FLUSH CACHE has made durable, or what a write has for it that was completed since, or that is outstanding (ACS-3, "Volatile write cache").
+/// last FLUSH CACHE has made durable, or zeros or what a write has for it that came since, or what an outstanding write has (ACS-3, "Volatile write cache").
 /// A command that failed has stored nothing, and a sector is stored whole or not at all.
 pub fn may_be_left<A: Allocator>(was: &[u8], events: &[Event<A>], lba: u64, bytes: &[u8]) -> bool
     ensures { IsTrue result ↔ MayBeLeft was.now (history_of events.now) lba bytes.now }

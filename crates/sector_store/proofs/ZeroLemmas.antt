@@ -3,13 +3,12 @@ use Rattle.std.proofs.Common.{◌≡◌, ℕ, ◌+◌, ◌-◌, ◌*◌, ◌/◌
 use Rattle.std.proofs.lemmas.Bool.{cases_lt, cases_eq, cond-true, cond-false, and_from, and_left, and_right, le-leb, lt-leb, lt-ltb, le-ltb, eq-eqb, ne_eqb, or_left, or_right, true≢false, false_from_ne_true}
 use Rattle.std.proofs.lemmas.List.{drop-replicate, take-replicate, length-replicate}
 use borrow.Rule.Slice.PartMut.{put_mid}
-use Rattle.ncq_journal.specs.Image.{sector_at}
+use Rattle.ncq_journal.specs.Image.{IsZeroedOver, is_within, sector_at, zero_sector}
 use Rattle.ncq_journal.proofs.ImageLemmas.{sector_at-put_mid}
 use Rattle.sector_store.specs.Blank.{IsBlank, AreClearable, AreMarkable, IsCleared}
 use Rattle.sector_store.specs.Layers.{Layers, page_now, zero_page, length-zero_page}
 use Rattle.sector_store.specs.Slots.{layers_of}
 use Rattle.sector_store.specs.Shown.{sector_over, sector_now, joined, is_held, is_touched, is_writable, ChangesAt, IsWrittenAt, ShowSame}
-use Rattle.sector_store.specs.Zeroed.{zero_sector, is_within, IsZeroed}
 use Rattle.sector_store.proofs.ChangeLemmas.{kept_dropped}
 use Rattle.sector_store.proofs.ShownLemmas.{AreSectors, length-joined, sector_at-joined, sector_at-past}
 
@@ -51,7 +50,7 @@ within_to lba n s is =
     ]
 
 -- each sector once whole sectors of an image were made zeros
-pub zeroed-put_mid : (lba n k : ℕ) (xs ys : List ℕ) → k ≡ 512 * n → ys ≡ replicate (512 * n) 0 → lba * 512 + k ≤ length xs → IsZeroed lba n xs (put_mid (lba * 512) k xs ys)
+pub zeroed-put_mid : (lba n k : ℕ) (xs ys : List ℕ) → k ≡ 512 * n → ys ≡ replicate (512 * n) 0 → lba * 512 + k ≤ length xs → IsZeroedOver lba n xs (put_mid (lba * 512) k xs ys)
 zeroed-put_mid lba n k xs ys part zeros fits s =
     let len : length ys ≡ 512 * n = ap length zeros ∙ length-replicate {A = ℕ} (512 * n) 0 in
     sector_at-put_mid lba n k xs ys part len fits s ∙ zero
@@ -71,7 +70,7 @@ zeroed-put_mid lba n k xs ys part zeros fits s =
 
 -- an image once some of its sectors are zeros
 pub zeroed-joined : (f g : ℕ → List ℕ) (n lba k : ℕ) → AreSectors f → AreSectors g → lba + k ≤ n → ((s : ℕ) → g s ≡ cond (is_within lba k s) zero_sector (f s))
-    → IsZeroed lba k (joined f n) (joined g n)
+    → IsZeroedOver lba k (joined f n) (joined g n)
 zeroed-joined f g n lba k size size' fits each s =
     elim (cases_lt s n) [
       | inl inside ↦ sector_at-joined g n s size' inside ∙ each s ∙ ap (cond (is_within lba k s) zero_sector) (sym (sector_at-joined f n s size inside))

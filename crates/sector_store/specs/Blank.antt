@@ -2,7 +2,7 @@
 use Rattle.std.specs.Prelude.{◌≡◌, ℕ, ◌/◌, ◌<◌, ◌≤◌, if◌then◌else◌, Bool, true, false, List, Option, ◌⊎◌}
 use Rattle.sector_store.specs.Layers.{Layers}
 use Rattle.sector_store.specs.Shown.{sector_now, sector_kept, is_touched, is_writable}
-use Rattle.sector_store.specs.Zeroed.{zero_sector}
+use Rattle.ncq_journal.specs.Image.{zero_sector}
 
 -- the eight sectors of a page are zeros
 abbrev pub IsBlank : (ℕ → List ℕ) → ℕ → Type 0

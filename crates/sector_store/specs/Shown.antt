@@ -3,10 +3,10 @@ use Rattle.std.specs.Prelude.{◌≡◌, ℕ, ◌+◌, ◌-◌, ◌*◌, ◌/◌
 use Rattle.std.specs.List.{flat_map, range_with_len}
 use Rattle.std.proofs.Common.{ap, ◌∙◌, arith, inl, inr, drop, length-drop, length-take}
 use Rattle.std.proofs.lemmas.Bool.{cases_lt, cond-true, cond-false, lt-ltb, le-ltb}
-use Rattle.ncq_journal.specs.Image.{sector_at}
+use Rattle.ncq_journal.specs.Image.{sector_at, zero_sector}
 use Rattle.sector_store.specs.Layers.{Layers, page_now}
 use Rattle.sector_store.specs.Slots.{layers_of}
-use Rattle.sector_store.specs.Zeroed.{zero_sector, length-zero_sector}
+use Rattle.sector_store.specs.Zeroed.{length-zero_sector}
 
 -- a sector of a buffer, or zeros past its last whole one
 abbrev pub buffer_sector : List ℕ → ℕ → List ℕ

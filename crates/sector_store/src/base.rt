@@ -2,7 +2,8 @@
 
 ghost use Rattle.std.specs.Prelude.{◌≡◌, ℕ, ◌≤◌, true, List, length};
 ghost use Rattle.sector_store.specs.Shown.{buffer_sector, length-buffer_sector};
-ghost use Rattle.sector_store.specs.Zeroed.{zero_sector, length-zero_sector};
+ghost use Rattle.ncq_journal.specs.Image.{zero_sector};
+ghost use Rattle.sector_store.specs.Zeroed.{length-zero_sector};
 
 use ncq_journal::read_sectors;
 
@@ -33,7 +34,7 @@ impl Base for Zeros {
 
     ghost whole = { λ base lba. length-zero_sector };
 
-    #[tactic(auto, unfolding(crate::specs::Zeroed::zero_sector))]
+    #[tactic(auto, unfolding(ncq_journal::specs::Image::zero_sector))]
     fn read(&self, _lba: u64, out: &mut [u8]) {
         out.fill(0);
     }
@@ -63,7 +64,7 @@ impl Base for Buffer<'_> {
 
     ghost whole = { λ base lba. length-buffer_sector base.bytes.now lba };
 
-    #[tactic(auto, unfolding(crate::specs::Zeroed::zero_sector))]
+    #[tactic(auto, unfolding(ncq_journal::specs::Image::zero_sector))]
     fn read(&self, lba: u64, out: &mut [u8]) {
         if lba < (self.bytes.len() / 512) as u64 {
             read_sectors(self.bytes, lba, out);

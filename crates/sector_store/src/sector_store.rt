@@ -1,9 +1,9 @@
 //! What a disk needs of what holds its sectors.
 
 ghost use Rattle.std.specs.Prelude.{◌≡◌, ℕ, ◌+◌, ◌*◌, ◌/◌, ◌<◌, ◌≤◌, Bool, true, not, ◌&&◌, ◌||◌, List, length, take, drop, OnOk, OnErr};
-ghost use Rattle.ncq_journal.specs.Image.{IsWrittenOver};
+ghost use Rattle.ncq_journal.specs.Image.{IsWrittenOver, IsZeroedOver};
 ghost use Rattle.sector_store.specs.Reserved.{AreReserved, StayReserved};
-ghost use Rattle.sector_store.specs.Zeroed.{IsZeroed, StayReservedBut};
+ghost use Rattle.sector_store.specs.Zeroed.{StayReservedBut};
 
 use std::alloc::AllocError;
 
@@ -70,7 +70,7 @@ pub trait SectorStore {
     /// If there is no memory, which only a store lacks that grows. No sector changes then, and what was reserved is.
     fn zero(&mut self, lba: u64, sectors: u64) -> Result<(), AllocError>
         requires { 512 * (lba + sectors) ≤ length (image self.old) }
-        ensures ok { OnOk result (IsZeroed lba sectors (image self.old) (image self.new)) }
+        ensures ok { OnOk result (IsZeroedOver lba sectors (image self.old) (image self.new)) }
         ensures err { OnErr result (image self.new ≡ image self.old) }
         ensures lacking { OnErr result ((can_grow && grows self.old) ≡ true) }
         ensures kind { grows self.new ≡ grows self.old }

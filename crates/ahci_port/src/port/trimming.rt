@@ -50,7 +50,7 @@ impl<A: Allocator, S: SectorStore> Port<A, S> {
     }
 
     /// Whether no slot is owned.
-    fn is_vacant(&self) -> bool
+    pub(super) fn is_vacant(&self) -> bool
         ensures { result ≡ is_vacant self.now }
     {
         !is_any_owned(&self.slots)

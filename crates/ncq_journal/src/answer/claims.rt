@@ -1,8 +1,9 @@
 //! What is claimed of all requests' answers, held against the events in one pass, with an image that is changed in place.
-ghost use Rattle.std.specs.Prelude.{◌≡◌, ◌↔◌, ◌*◌, ◌/◌, ◌<◌, ◌≤◌, IfOk, IsSome, IsTrue, None, Some, [], false, length, replicate, slice_index_or, slice_set};
+ghost use Rattle.std.specs.Prelude.{◌≡◌, ◌↔◌, ◌+◌, ◌*◌, ◌/◌, ◌<◌, ◌≤◌, IfOk, IsSome, IsTrue, None, Some, [], false, length, replicate, slice_index_or, slice_set};
 ghost use Rattle.std.specs.Option.{option_map};
 ghost use Rattle.ncq_journal.specs.Claims.{AreJudged, Holds};
 ghost use Rattle.ncq_journal.specs.History.{history_of};
+ghost use Rattle.ncq_journal.specs.Image.{IsZeroedOver};
 ghost use Rattle.ncq_journal.specs.Lawful.{IsLawful, end_of, IsWhole};
 ghost use Rattle.ncq_journal.specs.Passing.{IsImageAfter, completed_over};
 ghost use Rattle.ncq_journal.specs.Request.{request};
@@ -12,7 +13,7 @@ use crate::claim::Claim;
 use crate::event::Event;
 use crate::op::Op;
 use crate::outcome::Outcome;
-use crate::sector::write_sectors;
+use crate::sector::{write_sectors, zero_sectors};
 use std::alloc::{AllocError, Allocator};
 
 /// Whether this is claimed of a request: that it ended so at an entry, with these bytes.
@@ -57,6 +58,15 @@ fn completed_over<A: Allocator, B: Allocator>(
             is_claimed(claims, request, entry, Outcome::Wrote, &[])
         }
     }
+}
+
+/// Makes so many sectors of the image as it is then, from an LBA on, zeros.
+fn zeroed_over<B: Allocator>(image: &mut Vec<u8, B>, lba: u64, sectors: u32)
+    requires { 512 * (lba + sectors) ≤ length image.old.items }
+    ensures len { length image.new.items ≡ length image.old.items }
+    ensures zeros { IsZeroedOver lba sectors image.old.items image.new.items }
+{
+    zero_sectors(image, lba, sectors);
 }
 
 /// The number of a tag's request, and its command, after these events.
@@ -136,6 +146,7 @@ pub fn claims_hold<A: Allocator, B: Allocator + Clone>(
                 let holds = is_claimed(claims, request, number as u64, outcome, &[]);
                 note(&mut holding, request, holds);
             }
+            Event::Zero { lba, sectors } => zeroed_over(&mut now, *lba, *sectors),
             _ => {}
         }
     }

@@ -4,7 +4,8 @@ ghost use Rattle.std.specs.Prelude.{◌≡◌, ◌⊎◌, ℕ, ◌+◌, ◌-◌,
 ghost use Rattle.sector_store.specs.Blank.{AreClearable, AreMarkable, IsCleared};
 ghost use Rattle.sector_store.specs.Slots.{slot_at, table_span};
 ghost use Rattle.sector_store.specs.Shown.{ShowSame, is_touched, is_writable, sector_kept};
-ghost use Rattle.sector_store.specs.Zeroed.{is_within, StayReservedBut};
+ghost use Rattle.ncq_journal.specs.Image.{is_within};
+ghost use Rattle.sector_store.specs.Zeroed.{StayReservedBut};
 
 use crate::base::Base;
 use crate::changing;

@@ -22,6 +22,6 @@ invariant_of-self-2 g c =
     let m = plain_may (view_of i.disk.starting i.disk i.registers i.unqueued.sent i.area i.slots.items i.journal) (ap plain_refusal c.self.view_is ∙ sym c.plain_fault.ensures ∙ c.in_default.is) in
     let sent = c.carry_out.ensures in
     rw (sent.headers, sent.disk, disk_same c.args.plain i.disk c.requires, sent.registers, c.push_reserved.ensures.past, c.in_ok-reserve.ensures.past)
-    (keeps_unqueued i.disk.starting i.disk i.registers (carried c.args.plain i.registers) i.slots.items i.headers past i.journal.room c.push_reserved.new.self.room c.args.plain c.self.invariant (c.requires, m.0, m.1)
+    (keeps_unqueued i.disk.starting i.disk i.registers (carried c.args.plain i.registers) i.slots.items i.headers past i.journal.room c.push_reserved.new.self.room c.args.plain c.self.invariant (c.requires, m)
     (tracks_carried c.args.plain i.disk.depth past i.registers c.self.invariant.tracks c.self.invariant.shape.some_slot c.self.invariant.shape.shallow (slot_0_waits past m.0 m.1))
     (let a = c.in_ok-reserve.ensures.room in let b = c.push_reserved.ensures.room in omega arith))

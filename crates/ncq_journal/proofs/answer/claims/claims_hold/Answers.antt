@@ -4,9 +4,9 @@ use Rattle.ncq_journal.specs.History.{history_of}
 use Rattle.ncq_journal.specs.Passing.{completed_over}
 use Rattle.ncq_journal.specs.Work.{work_of}
 use Rattle.ncq_journal.proofs.ClaimLemmas.{judged_all, judging_answer, judging_none, judging_on}
-use Rattle.ncq_journal.proofs.PassEventLemmas.{complete_ending, complete_moving, complete_next, fail_ending, fail_next, issue_low, issue_next, quiet_next}
+use Rattle.ncq_journal.proofs.PassEventLemmas.{complete_ending, complete_moving, complete_next, fail_ending, fail_next, issue_low, issue_next, quiet_next, zero_fits, zero_next}
 use Rattle.ncq_journal.proofs.answer.claims.claims_hold.Goals as goal
-use Rattle.ncq_journal.proofs.answer.claims.claims_hold.Goals.{in-Issue, in-Complete, in-Fail, in_default}
+use Rattle.ncq_journal.proofs.answer.claims.claims_hold.Goals.{in-Issue, in-Complete, in-Fail, in-Zero, in_default}
 
 pub loop-number-init : goal.loop-number-init
 loop-number-init g c = rw (c.in_ok-now.ensures.items, c.in_ok-requests.ensures, c.in_ok-holding.ensures)
@@ -91,6 +91,12 @@ note-requires-in-Fail g c =
     let kept = c.loop-number.invariant.count in
     let known = c.loop-number.invariant.passed.count in omega arith
 
+pub zeroed_over-requires : goal.zeroed_over-requires
+zeroed_over-requires g c =
+    zero_fits c.args.image.now c.args.events.now c.args.depth c.loop-number.number c.index-events-number.result c.in-Zero.lba c.in-Zero.sectors
+    c.loop-number.now.items c.loop-number.requests.items c.loop-number.invariant.answers
+    (record { whole = c.requires.whole; low = c.loop-number-test.true; is = c.index-events-number.is; lawful = c.requires.lawful }) c.in-Zero.is c.loop-number.invariant.passed
+
 pub loop-number-preserved : goal.loop-number-preserved
 loop-number-preserved g c =
     let now = c.loop-number.now.items in
@@ -132,11 +138,16 @@ loop-number-preserved g c =
           (record { number = w.asked-request-in-Fail.result.0; work = work }) now requests answers
           (record { whole = c.requires.whole; low = c.loop-number-test.true; is = c.index-events-number.is; lawful = c.requires.lawful }) w.in-Fail.is w.asked-request-in-Fail.ensures
           c.loop-number.invariant.passed)))
+      | in-Zero w ↦ rw (w.now-is, w.requests-is, w.holding-is)
+          (judging_on c.args.image.now past more total depth now w.zeroed_over.new.image.items requests requests claims holding c.loop-number.invariant
+          (zero_next c.args.image.now c.args.events.now depth c.loop-number.number c.index-events-number.result w.in-Zero.lba w.in-Zero.sectors now w.zeroed_over.new.image.items requests answers
+          (record { whole = c.requires.whole; low = c.loop-number-test.true; is = c.index-events-number.is; lawful = c.requires.lawful }) w.in-Zero.is
+          w.zeroed_over.ensures.len w.zeroed_over.ensures.zeros c.loop-number.invariant.passed))
       | in_default w ↦ rw (w.now-is, w.requests-is, w.holding-is)
           (judging_on c.args.image.now past more total depth now now requests requests claims holding c.loop-number.invariant
           (quiet_next c.args.image.now c.args.events.now depth c.loop-number.number c.index-events-number.result now requests answers
           (record { whole = c.requires.whole; low = c.loop-number-test.true; is = c.index-events-number.is; lawful = c.requires.lawful })
-          w.in_default.not-Issue w.in_default.not-Complete w.in_default.not-Fail c.loop-number.invariant.passed))
+          w.in_default.not-Issue w.in_default.not-Complete w.in_default.not-Fail w.in_default.not-Zero c.loop-number.invariant.passed))
     ]
 
 pub returns : goal.returns

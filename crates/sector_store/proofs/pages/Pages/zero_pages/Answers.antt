@@ -1,7 +1,7 @@
 use Rattle.std.proofs.Common.{◌≡◌, ◌+◌, ◌-◌, ◌*◌, sym, ◌∙◌, arith, refl, subst}
 use Rattle.sector_store.specs.Blank.{AreMarkable, IsCleared}
 use Rattle.sector_store.specs.Slots.{slot_at}
-use Rattle.sector_store.specs.Zeroed.{is_within}
+use Rattle.ncq_journal.specs.Image.{is_within}
 use Rattle.sector_store.proofs.ZeroLemmas.{cleared_none, cleared_more, markable_one}
 use Rattle.sector_store.proofs.pages.Pages.zero_pages.Goals as goal
 

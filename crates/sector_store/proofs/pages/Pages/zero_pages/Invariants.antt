@@ -3,7 +3,7 @@ use Rattle.std.proofs.Common.{◌≡◌, ℕ, ◌-◌, ◌*◌}
 use Rattle.sector_store.specs.Blank.{IsCleared}
 use Rattle.sector_store.specs.Slots.{slot_at}
 use Rattle.sector_store.specs.Shown.{is_touched}
-use Rattle.sector_store.specs.Zeroed.{is_within}
+use Rattle.ncq_journal.specs.Image.{is_within}
 use Rattle.sector_store.proofs.pages.Pages.zero_pages.Given as goal
 
 abbrev pub invariant-loop-number : goal.invariant-loop-number

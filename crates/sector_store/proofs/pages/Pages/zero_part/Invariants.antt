@@ -2,7 +2,7 @@
 use Rattle.std.proofs.Common.{◌≡◌}
 use Rattle.sector_store.specs.Blank.{IsCleared}
 use Rattle.sector_store.specs.Slots.{slot_at}
-use Rattle.sector_store.specs.Zeroed.{is_within}
+use Rattle.ncq_journal.specs.Image.{is_within}
 use Rattle.sector_store.proofs.pages.Pages.zero_part.Given as goal
 
 abbrev pub invariant-loop-k : goal.invariant-loop-k

@@ -2,7 +2,7 @@ use Rattle.std.proofs.Common.{◌+◌, ◌-◌, ◌*◌, ◌/◌, ◌∙◌, sub
 use Rattle.sector_store.specs.Blank.{IsCleared}
 use Rattle.sector_store.specs.Slots.{slot_at}
 use Rattle.sector_store.specs.Shown.{ShowSame}
-use Rattle.sector_store.specs.Zeroed.{is_within}
+use Rattle.ncq_journal.specs.Image.{is_within}
 use Rattle.sector_store.proofs.ChangeLemmas.{shows_on}
 use Rattle.sector_store.proofs.ZeroLemmas.{cleared_three}
 use Rattle.sector_store.proofs.pages.Pages.zero_run.Goals as goal

@@ -1,5 +1,5 @@
 use Rattle.sector_store.specs.Slots.{slot_at}
-use Rattle.sector_store.specs.Zeroed.{zero_sector}
+use Rattle.ncq_journal.specs.Image.{zero_sector}
 use Rattle.sector_store.proofs.ZeroLemmas.{cleared_sector}
 use Rattle.sector_store.proofs.pages.Pages.zero_sector.Goals as goal
 
