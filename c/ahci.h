@@ -257,7 +257,8 @@ typedef enum ahci_event {
     AHCI_EVENT_COLLECT = 7,  /* tag */
     AHCI_EVENT_IDENTIFY = 8, /* IDENTIFY DEVICE was carried out */
     AHCI_EVENT_FLUSH = 9,    /* FLUSH CACHE EXT was carried out */
-    AHCI_EVENT_READ_LOG = 10 /* READ LOG EXT by itself: no port records it */
+    AHCI_EVENT_READ_LOG = 10, /* READ LOG EXT by itself: no port records it */
+    AHCI_EVENT_ZERO = 11     /* DATA SET MANAGEMENT with TRIM has made sectors zeros: lba, sectors */
 } ahci_event;
 
 /* One entry. What its kind doesn't have is 0. */

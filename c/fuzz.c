@@ -311,6 +311,7 @@ static bool may(const ahci_entry *e)
     case AHCI_EVENT_COLLECT: return it->phase == AHCI_PHASE_DONE;
     case AHCI_EVENT_IDENTIFY:
     case AHCI_EVENT_FLUSH: return !halted && !set_of(SET(ISSUED) | SET(ACCEPTED));
+    case AHCI_EVENT_ZERO: return !halted && !set_of(SET(ISSUED) | SET(ACCEPTED)) && e->sectors && e->lba <= SECTORS && e->sectors <= SECTORS - e->lba;
     default: return false;
     }
 }
@@ -330,7 +331,7 @@ static void judge(uint32_t seed)
         seed = seed * 1664525 + 1013904223;
         const uint32_t pick = seed >> 8, tag = pick % 7;
         events[count] = (ahci_entry){
-            .kind = i % 12, .tag = tag < 5 ? tag : tag + 26, .lba = lbas[pick / 7 % 6], .error = errors[pick / 42 % 3], .sectors = pick / 126 % 4,
+            .kind = i % 13, .tag = tag < 5 ? tag : tag + 26, .lba = lbas[pick / 7 % 6], .error = errors[pick / 42 % 3], .sectors = pick / 126 % 4,
         };
         bad = 7777;
         uint32_t status = ahci_journal_check(SECTORS, depth, events, count + 1, &bad);

@@ -25,6 +25,10 @@ static void follow(uint64_t entries)
             going[entry.tag].on = false;
         } else if (entry.kind == AHCI_EVENT_FLUSH) {
             loss_flushes();
+        } else if (entry.kind == AHCI_EVENT_ZERO) {
+            CHECK(entry.sectors && entry.lba < has && entry.sectors <= has - entry.lba);
+            loss_zeroes(entry.lba, entry.sectors);
+            memset(image + entry.lba * AHCI_SECTOR_BYTES, 0, (size_t)entry.sectors * AHCI_SECTOR_BYTES);
         } else if (entry.kind == AHCI_EVENT_COMPLETE) {
             loss_completes(entry.tag);
             CHECK(it->sent && it->lba + it->sectors <= has);

@@ -1,5 +1,5 @@
 /* What a sector may hold after a loss of power, as the shadow reads ACS-3 ("Volatile write cache", FLUSH CACHE): what it had when the last flush was carried out, or the
-   bytes of a write that was completed since or is outstanding. Included by hba_shadow_commands.h, which names the journal's entries one after the other. */
+   bytes of a write that was completed since or is outstanding, or zeros if it was trimmed since. Included by hba_shadow_commands.h, which names the journal's entries one after the other. */
 
 #define CHANCES 4096u
 
@@ -35,16 +35,27 @@ static void loss_issues(uint32_t tag, bool is_write, uint64_t lba, uint32_t sect
         memcpy(going[tag].bytes, bytes, (size_t)sectors * AHCI_SECTOR_BYTES);
 }
 
+static void take_chance(uint64_t sector, const uint8_t *bytes)
+{
+    has_all = has_all && chance_count < CHANCES;
+    if (has_all) {
+        chances[chance_count].sector = (uint8_t)sector;
+        memcpy(chances[chance_count++].bytes, bytes, AHCI_SECTOR_BYTES);
+    }
+}
+
 static void loss_completes(uint32_t tag)
 {
-    for (uint32_t at = 0; going[tag].on && at < going[tag].sectors; at++) {
-        has_all = has_all && chance_count < CHANCES;
-        if (has_all) {
-            chances[chance_count].sector = (uint8_t)(going[tag].lba + at);
-            memcpy(chances[chance_count++].bytes, going[tag].bytes + (size_t)at * AHCI_SECTOR_BYTES, AHCI_SECTOR_BYTES);
-        }
-    }
+    for (uint32_t at = 0; going[tag].on && at < going[tag].sectors; at++)
+        take_chance(going[tag].lba + at, going[tag].bytes + (size_t)at * AHCI_SECTOR_BYTES);
     going[tag].on = false;
+}
+
+static void loss_zeroes(uint64_t lba, uint32_t sectors)
+{
+    static const uint8_t zeros[AHCI_SECTOR_BYTES];
+    for (uint32_t at = 0; at < sectors; at++)
+        take_chance(lba + at, zeros);
 }
 
 static bool may_be_left(uint32_t sector, const uint8_t *bytes)

@@ -27,6 +27,11 @@ static void put_command(struct device *device, const ahci_entry *entry) {
     history->owned |= UINT32_C(1) << entry->tag;
 }
 
+/* Sectors became zeros. They are by now, so of a large disk's pages the record has what is left of them. */
+static void put_zeros(struct device *device, const ahci_entry *entry) {
+    scribe_put_command(&device->history.scribe, &device->disk, (struct record_entry){.kind = RECORD_ZERO, .count = entry->sectors, .lba = entry->lba}, 0);
+}
+
 /* A command is served: its tag is behind the entry. */
 static void put_served(struct history *history, uint32_t tag) {
     const struct record_entry it = {.kind = RECORD_SERVE, .count = 1};
@@ -56,6 +61,9 @@ static void put_entry(struct device *device, const ahci_entry *entry) {
         break;
     case AHCI_EVENT_FAIL:
         put_failed(history, entry);
+        break;
+    case AHCI_EVENT_ZERO:
+        put_zeros(device, entry);
         break;
     default:
         put_tag(history, kinds[entry->kind], entry->tag);

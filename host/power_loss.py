@@ -7,13 +7,13 @@ from __future__ import annotations
 
 from typing import Callable, Dict, FrozenSet, Iterator, List, NamedTuple, Optional, Set
 
-from records import COLLECT, FLUSH, LEFT, LOSS, RESET, SECTOR, SERVE, WRITE, Entry, Record, State
+from records import COLLECT, FLUSH, LEFT, LOSS, RESET, SECTOR, SERVE, WRITE, ZERO, Entry, Record, State
 
 NONE: FrozenSet[int] = frozenset()
 
 
 class Write:
-    """A write that no flush has come after."""
+    """A write that no flush has come after, or sectors that became zeros: of those the record has no answer."""
 
     def __init__(self, entry: Entry, is_carried_out: bool) -> None:
         self.entry = entry
@@ -25,6 +25,8 @@ class Write:
 
     def sector(self, lba: int) -> bytes:
         at = SECTOR * (lba - self.entry.lba)
+        if self.entry.kind == ZERO:
+            return bytes(SECTOR)
         return bytes(self.entry.data[at:at + SECTOR])
 
 
@@ -50,6 +52,9 @@ class Unflushed:
                 self.carry_out(state.commands[tag], state)
         elif it.kind == COLLECT and it.tag in self.by_tag:
             self.by_tag.pop(it.tag).is_answered = True
+        elif it.kind == ZERO:
+            self.remember(it, state)
+            self.writes.append(Write(it, True))
         elif it.kind == FLUSH:
             self.writes, self.before = [], {}
         elif it.kind == RESET:

@@ -12,8 +12,8 @@ MOST_SECTORS = 131_072  # of a disk whose parts begin with all of its sectors, a
 HEADER = struct.Struct("<8sIIQQ32x")
 ENTRY = struct.Struct("<BBBBIQQ")
 MAGIC = b"ahcirec1"
-SECTORS, READ, WRITE, ACCEPT, SERVE, FAIL, RECOVER, REISSUE, COLLECT, FLUSH, TRIM, RESET, IDENTIFY, READ_LOG, LOSS, LEFT = range(16)
-NAMES = ("sectors", "read", "write", "accept", "serve", "fail", "recover", "reissue", "collect", "flush", "trim", "reset", "identify", "read log", "loss", "left")
+SECTORS, READ, WRITE, ACCEPT, SERVE, FAIL, RECOVER, REISSUE, COLLECT, FLUSH, TRIM, RESET, IDENTIFY, READ_LOG, LOSS, LEFT, ZERO = range(17)
+NAMES = ("sectors", "read", "write", "accept", "serve", "fail", "recover", "reissue", "collect", "flush", "trim", "reset", "identify", "read log", "loss", "left", "zero")
 
 
 class Wrong(Exception):
@@ -116,6 +116,16 @@ class Disk:
                 self.pages[page] = bytearray(PAGE)
             self.pages[page][first:first + len(part)] = part
 
+    def zero(self, lba: int, count: int) -> None:
+        """Makes sectors zeros. A page all of which is zeros takes no memory."""
+        first, end = SECTOR * lba, SECTOR * (lba + count)
+        for page in [it for it in self.pages if PAGE * it < end and first < PAGE * (it + 1)]:
+            begin, last = max(first - PAGE * page, 0), min(end - PAGE * page, PAGE)
+            if last - begin == PAGE:
+                del self.pages[page]
+            else:
+                self.pages[page][begin:last] = bytes(last - begin)
+
     def get(self, lba: int, count: int = 1) -> bytes:
         first, end = SECTOR * lba, SECTOR * (lba + count)
         found = b"".join(self.page(it) for it in range(first // PAGE, (end + PAGE - 1) // PAGE))
@@ -133,7 +143,7 @@ class Disk:
             for page, first, part in pieces_of(it.lba, it.data):
                 if page not in self.known:
                     self.put((PAGE * page + first) // SECTOR, part)
-        elif it.kind in (READ, WRITE) and self.is_large:
+        elif it.kind in (READ, WRITE, ZERO) and self.is_large:
             first, end = self.span_of(it)
             self.known.update(range(SECTOR * first // PAGE, (SECTOR * end + PAGE - 1) // PAGE) if first < end else ())
 
@@ -190,6 +200,8 @@ class State:
             self.drop()
         elif it.kind == LEFT:
             self.disk.put(it.lba, it.data)
+        elif it.kind == ZERO:
+            self.disk.zero(it.lba, it.count)
 
     def drop(self) -> None:
         """A reset, or a loss of power: nothing is outstanding any more."""

@@ -114,6 +114,7 @@ class Event(enum.IntEnum):
     IDENTIFY = 8
     FLUSH = 9
     READ_LOG = 10
+    ZERO = 11
 
 
 class Wrote(enum.IntEnum):

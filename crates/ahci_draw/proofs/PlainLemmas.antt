@@ -12,7 +12,7 @@ use Rattle.streams.specs.Text.{hex_of}
 use Rattle.ahci_script.specs.Said.{Said}
 use Rattle.ahci_script.specs.declared.line.Line.{Line}
 use Rattle.ahci_script.specs.declared.line.Line.TheVariants as line
-use Rattle.ncq_journal.specs.Entry.{Entry, Issue, Accept, Complete, Fail, Recover, Reissue, Collect, Unqueued}
+use Rattle.ncq_journal.specs.Entry.{Entry, Issue, Accept, Complete, Fail, Recover, Reissue, Collect, Unqueued, Zero}
 use Rattle.ncq_journal.specs.Numbering.{entry_numbered}
 use Rattle.ncq_journal.specs.Work.{Work, Read, Write, sectors_of}
 use Rattle.ncq_journal.specs.declared.phase.Phase.{Phase}
@@ -27,7 +27,7 @@ use Rattle.ahci_draw.specs.Mark.{mark_of}
 use Rattle.ahci_draw.specs.Sheet.{added_between, sheet_text}
 use Rattle.ahci_draw.specs.Tags.{in_device, moved, unused}
 use Rattle.ahci_draw.specs.Text.{letter, numbered}
-use Rattle.ahci_draw.specs.Words.{entry_words, failure_words, issue_words, title_text}
+use Rattle.ahci_draw.specs.Words.{entry_words, failure_words, issue_words, title_text, zero_words}
 use Rattle.ahci_draw.specs.declared.tag_state.TagState.{TagState}
 use Rattle.ahci_draw.proofs.MarkupLemmas.{plain_append, plain_decimal, plain_hex}
 use Rattle.ahci_draw.proofs.ClosedLemmas.{Plain, plain_lines, plain_numbered}
@@ -50,6 +50,10 @@ plain_failure tag error lba =
     plain_append (32 ∷ hex_of 2 error) (numbered (codes "h, tag ") tag ++ numbered (codes ", LBA ") lba) (plain_hex 2 error)
     (plain_append (numbered (codes "h, tag ") tag) (numbered (codes ", LBA ") lba) (plain_numbered _ _ refl) (plain_numbered _ _ refl))
 
+plain_zero : (lba sectors : ℕ) → Plain (zero_words lba sectors)
+unfolding zero_words
+plain_zero lba sectors = plain_append (numbered (codes ": DATA SET MANAGEMENT, LBA ") lba) (numbered (codes ", sectors ") sectors) (plain_numbered _ _ refl) (plain_numbered _ _ refl)
+
 plain_entry : (entry : Entry) → Plain (entry_words entry)
 plain_entry (Issue tag work) = plain_issue tag work
 plain_entry (Accept tag) = plain_numbered _ _ refl
@@ -61,6 +65,7 @@ plain_entry (Collect tag) = plain_numbered _ _ refl
 plain_entry (Unqueued Identify) = refl
 plain_entry (Unqueued Flush) = refl
 plain_entry (Unqueued ReadLog) = refl
+plain_entry (Zero lba sectors) = plain_zero lba sectors
 
 plain_title : (number : ℕ) (entry : Entry) → Plain (title_text number entry)
 unfolding title_text
@@ -115,6 +120,7 @@ plain_sign_of (Collect tag) = refl
 plain_sign_of (Unqueued Identify) = refl
 plain_sign_of (Unqueued Flush) = refl
 plain_sign_of (Unqueued ReadLog) = refl
+plain_sign_of (Zero lba sectors) = refl
 
 plain_lane : (entry : Entry) → is_plain (lane_of entry) ≡ true
 plain_lane (Issue tag work) = plain_letter tag
@@ -125,6 +131,7 @@ plain_lane (Recover tag) = plain_letter tag
 plain_lane (Reissue tag) = plain_letter tag
 plain_lane (Collect tag) = plain_letter tag
 plain_lane (Unqueued command) = refl
+plain_lane (Zero lba sectors) = refl
 
 -- ---- the sheet
 

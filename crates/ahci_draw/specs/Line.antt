@@ -2,7 +2,7 @@
 -- lane that it is in, and the entry in words. No byte of it but the line feed at its front is one that XML reads as more than itself.
 use Rattle.std.specs.Prelude.{ℕ, if◌then◌else◌, Bool, List, [], ◌∷◌, ◌++◌, flat_map, slice_index_or}
 use Rattle.std.specs.List.{range_with_len}
-use Rattle.ncq_journal.specs.Entry.{Entry, Issue, Accept, Complete, Fail, Recover, Reissue, Collect, Unqueued}
+use Rattle.ncq_journal.specs.Entry.{Entry, Issue, Accept, Complete, Fail, Recover, Reissue, Collect, Unqueued, Zero}
 use Rattle.ncq_journal.specs.Work.{Work, Read, Write}
 use Rattle.ncq_journal.specs.declared.phase.Phase.{Phase}
 use Rattle.ncq_journal.specs.declared.phase.Phase.TheVariants.{Free, Issued, Accepted, Rejected, Broken, Held, Done}
@@ -35,7 +35,7 @@ abbrev pub issue_sign : Work → ℕ
 issue_sign (Read lba sectors) = 82
 issue_sign (Write lba bytes) = 87
 
--- I for IDENTIFY DEVICE, F for FLUSH CACHE EXT, L for READ LOG EXT
+-- I for IDENTIFY DEVICE, F for FLUSH CACHE EXT, L for READ LOG EXT; and Z for sectors that become zeros
 abbrev pub plain_sign : Plain → ℕ
 plain_sign Identify = 73
 plain_sign Flush = 70
@@ -50,6 +50,7 @@ sign_of (Recover tag) = 86
 sign_of (Reissue tag) = 78
 sign_of (Collect tag) = 69
 sign_of (Unqueued command) = plain_sign command
+sign_of (Zero lba sectors) = 90
 
 -- the lane of its tag; a dot for a command that is not queued
 abbrev pub lane_of : Entry → ℕ
@@ -61,6 +62,7 @@ lane_of (Recover tag) = letter tag
 lane_of (Reissue tag) = letter tag
 lane_of (Collect tag) = letter tag
 lane_of (Unqueued command) = 46
+lane_of (Zero lba sectors) = 46
 
 -- the line of an entry, after which the tags have these states
 unfoldable pub entry_line : ℕ → List TagState → Entry → List ℕ

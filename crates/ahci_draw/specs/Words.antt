@@ -2,7 +2,7 @@
 use Rattle.std.specs.Prelude.{ℕ, List, ◌∷◌, ◌++◌, codes}
 use Rattle.std.specs.Fmt.{decimal}
 use Rattle.streams.specs.Text.{hex_of}
-use Rattle.ncq_journal.specs.Entry.{Entry, Issue, Accept, Complete, Fail, Recover, Reissue, Collect, Unqueued}
+use Rattle.ncq_journal.specs.Entry.{Entry, Issue, Accept, Complete, Fail, Recover, Reissue, Collect, Unqueued, Zero}
 use Rattle.ncq_journal.specs.Work.{Work, Read, Write, lba_of, sectors_of}
 use Rattle.ncq_journal.specs.declared.plain.Plain.{Plain}
 use Rattle.ncq_journal.specs.declared.plain.Plain.TheVariants.{Identify, Flush, ReadLog}
@@ -26,6 +26,10 @@ issue_words tag work = numbered (direction work) tag ++ (numbered (codes ", LBA 
 unfoldable pub failure_words : ℕ → ℕ → ℕ → List ℕ
 failure_words tag error lba = codes ": error" ++ ((32 ∷ hex_of 2 error) ++ (numbered (codes "h, tag ") tag ++ numbered (codes ", LBA ") lba))
 
+-- DATA SET MANAGEMENT with TRIM: the first sector and how many become zeros
+unfoldable pub zero_words : (lba sectors : ℕ) → List ℕ
+zero_words lba sectors = numbered (codes ": DATA SET MANAGEMENT, LBA ") lba ++ numbered (codes ", sectors ") sectors
+
 abbrev pub entry_words : Entry → List ℕ
 entry_words (Issue tag work) = issue_words tag work
 entry_words (Accept tag) = numbered (codes ": accept, tag ") tag
@@ -35,6 +39,7 @@ entry_words (Recover tag) = numbered (codes ": recover, tag ") tag
 entry_words (Reissue tag) = numbered (codes ": issue again, tag ") tag
 entry_words (Collect tag) = numbered (codes ": collect, tag ") tag
 entry_words (Unqueued command) = plain_words command
+entry_words (Zero lba sectors) = zero_words lba sectors
 
 -- the entry's number, and the entry
 unfoldable pub title_text : ℕ → Entry → List ℕ

@@ -64,6 +64,7 @@ fn sign_of<A: Allocator>(event: &Event<A>) -> u8
         Event::Reissue(_) => b'N',
         Event::Collect(_) => b'E',
         Event::Plain(command) => plain_sign(*command),
+        Event::Zero { .. } => b'Z',
     }
 }
 
@@ -79,7 +80,7 @@ fn lane_of<A: Allocator>(event: &Event<A>) -> u8
         | Event::Recover(tag)
         | Event::Reissue(tag)
         | Event::Collect(tag) => letter(*tag as usize),
-        Event::Plain(_) => b'.',
+        Event::Plain(_) | Event::Zero { .. } => b'.',
     }
 }
 

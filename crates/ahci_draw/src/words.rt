@@ -3,7 +3,7 @@
 ghost use Rattle.std.specs.Prelude.{◌≡◌, ◌++◌, OnOk};
 ghost use Rattle.ncq_journal.specs.Entry.{entry_of};
 ghost use Rattle.ncq_journal.specs.Work.{work_of};
-ghost use Rattle.ahci_draw.specs.Words.{direction, entry_words, failure_words, issue_words, plain_words, title_text};
+ghost use Rattle.ahci_draw.specs.Words.{direction, entry_words, failure_words, issue_words, plain_words, title_text, zero_words};
 
 use crate::text::push_number;
 use ncq_journal::{Event, Op, Plain};
@@ -59,6 +59,18 @@ fn push_failure<A: Allocator>(
     push_number(text, b", LBA ", lba as u128)
 }
 
+#[tactic(auto, unfolding(crate::specs::Words::zero_words))]
+fn push_zero<A: Allocator>(
+    text: &mut TextBuffer<A>,
+    lba: u64,
+    sectors: u32,
+) -> Result<(), AllocError>
+    ensures { OnOk result (text.new.bytes ≡ text.old.bytes ++ zero_words lba sectors) }
+{
+    push_number(text, b": DATA SET MANAGEMENT, LBA ", lba as u128)?;
+    push_number(text, b", sectors ", sectors as u128)
+}
+
 /// Appends an entry in words, after its number.
 fn push_words<A: Allocator, B: Allocator>(
     text: &mut TextBuffer<A>,
@@ -75,6 +87,7 @@ fn push_words<A: Allocator, B: Allocator>(
         Event::Reissue(tag) => push_number(text, b": issue again, tag ", *tag as u128),
         Event::Collect(tag) => push_number(text, b": collect, tag ", *tag as u128),
         Event::Plain(command) => text.push(plain_words(*command)),
+        Event::Zero { lba, sectors } => push_zero(text, *lba, *sectors),
     }
 }
 

@@ -13,7 +13,7 @@ use std::alloc::Allocator;
 fn is_queued<A: Allocator>(event: &Event<A>) -> bool
     ensures { result ≡ is_queued (entry_of event.now) }
 {
-    !matches!(event, Event::Plain(_))
+    !matches!(event, Event::Plain(_) | Event::Zero { .. })
 }
 
 /// Whether they add all of these.

@@ -7,11 +7,11 @@ use Rattle.std.proofs.Math.Path.{fun_ext}
 use Rattle.std.proofs.lemmas.Bool.{cases_Bool, ltb-true}
 use Rattle.std.proofs.lemmas.List.{length-replicate, map-append, reverse-append}
 use Rattle.std.proofs.lemmas.List.Elements.{All-head, All-tail}
-use Rattle.ncq_journal.specs.Entry.{Entry, Issue, Accept, Complete, Fail, Recover, Reissue, Collect, Unqueued}
+use Rattle.ncq_journal.specs.Entry.{Entry, Issue, Accept, Complete, Fail, Recover, Reissue, Collect, Unqueued, Zero}
 use Rattle.ncq_journal.specs.EventKind.{HasLowTag, entry_of_kind, journal_of, kind_of, work_over}
 use Rattle.ncq_journal.specs.Halted.{busy, halted, tags}
 use Rattle.ncq_journal.specs.Image.{is_write}
-use Rattle.ncq_journal.specs.Lawful.{Fails, IsAllowed, IsLawful, IsProper, IsWhole}
+use Rattle.ncq_journal.specs.Lawful.{Fails, IsAllowed, IsLawful, IsProper, IsWhole, MaySend}
 use Rattle.ncq_journal.specs.Phase.{is_busy, is_failed, phase, phase_after}
 use Rattle.ncq_journal.specs.Request.{Request, request}
 use Rattle.ncq_journal.specs.Work.{Work, Read, Write, lba_of, sectors_of}
@@ -58,6 +58,7 @@ request_next past other tag (Recover t) same = same
 request_next past other tag (Reissue t) same = same
 request_next past other tag (Collect t) same = same
 request_next past other tag (Unqueued command) same = same
+request_next past other tag (Zero lba sectors) same = same
 
 blank_same : (past other : List Entry) (entry : Entry) → LeaveTheSame past other → LeaveTheSame (entry ∷ past) (blank entry ∷ other)
 blank_same past other entry same tag =
@@ -132,6 +133,9 @@ proper_back (Write lba bytes) whole proper =
 phase_at : (past other : List Entry) (tag : ℕ) (p : Phase) → LeaveTheSame past other → phase past tag ≡ p → phase other tag ≡ p
 phase_at past other tag p same is = (same tag).0 ∙ is
 
+may_send_same : (past other : List Entry) → LeaveTheSame past other → MaySend past → MaySend other
+may_send_same past other same may = (halted_same past other same ∙ may.0, busy_same past other same ∙ may.1)
+
 -- what may come after one journal may come after the other, with or without its bytes
 allowed_over : (s d : ℕ) (past other : List Entry) (entry : Entry) → LeaveTheSame past other → IsAllowed s d past entry → IsAllowed s d other (blank entry)
 allowed_over s d past other (Issue t work) same may =
@@ -143,7 +147,8 @@ allowed_over s d past other (Fail t error lba) same may = (halted_same past othe
 allowed_over s d past other (Recover t) same may = ap is_failed (same t).0 ∙ may
 allowed_over s d past other (Reissue t) same may = (phase_at past other t phases.Held same may.0, halted_same past other same ∙ may.1)
 allowed_over s d past other (Collect t) same may = phase_at past other t phases.Done same may
-allowed_over s d past other (Unqueued command) same may = (may.0, halted_same past other same ∙ may.1, busy_same past other same ∙ may.2)
+allowed_over s d past other (Unqueued command) same may = (may.0, may_send_same past other same may.1)
+allowed_over s d past other (Zero lba sectors) same may = (may.0, may_send_same past other same may.1)
 
 allowed_back : (s d : ℕ) (past other : List Entry) (entry : Entry) → LeaveTheSame past other → IsWholeEntry entry → IsAllowed s d other (blank entry) → IsAllowed s d past entry
 allowed_back s d past other (Issue t work) same whole may =
@@ -176,6 +181,7 @@ low_tag s d past (Recover tag) may = low_or_nameless s d past tag _ may
 low_tag s d past (Reissue tag) may = low_or_nameless s d past tag _ may
 low_tag s d past (Collect tag) may = low_or_nameless s d past tag _ may
 low_tag s d past (Unqueued command) may = tt
+low_tag s d past (Zero lba sectors) may = tt
 
 same_next : (past other : List Entry) (entry : Entry) → LeaveTheSame past other → judged entry ≡ blank entry → LeaveTheSame (entry ∷ past) (judged entry ∷ other)
 same_next past other entry same is = subst (λ e. LeaveTheSame (entry ∷ past) (e ∷ other)) (sym is) (blank_same past other entry same)

@@ -1,7 +1,7 @@
 -- A struct that was filled in from an entry names that entry's event.
 use Rattle.std.proofs.Common.{◌≡◌, ◌<◌, ◌∙◌, ℕ, false, cond, nat_lt, ap, refl}
 use Rattle.std.proofs.lemmas.Bool.{lt-ltb}
-use Rattle.ncq_journal.specs.Entry.{Issue, Accept, Complete, Fail, Recover, Reissue, Collect, Unqueued}
+use Rattle.ncq_journal.specs.Entry.{Issue, Accept, Complete, Fail, Recover, Reissue, Collect, Unqueued, Zero}
 use Rattle.ncq_journal.specs.Work.{Read, Write}
 use Rattle.ncq_journal.specs.declared.event_kind.EventKind.{EventKind}
 use Rattle.ncq_journal.specs.declared.event_kind.EventKind.TheVariants as kind
@@ -25,3 +25,4 @@ entries_name_their_events (Collect tag) small byte = low tag (kind.Collect tag) 
 entries_name_their_events (Unqueued Identify) small byte = refl
 entries_name_their_events (Unqueued Flush) small byte = refl
 entries_name_their_events (Unqueued ReadLog) small byte = refl
+entries_name_their_events (Zero lba sectors) small byte = refl

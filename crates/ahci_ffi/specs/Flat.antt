@@ -74,3 +74,4 @@ flat_entry (entry.Recover tag) = record { lba = 0; sectors = 0; kind = 5; tag = 
 flat_entry (entry.Reissue tag) = record { lba = 0; sectors = 0; kind = 6; tag = tag; error = 0 }
 flat_entry (entry.Collect tag) = record { lba = 0; sectors = 0; kind = 7; tag = tag; error = 0 }
 flat_entry (entry.Unqueued command) = record { lba = 0; sectors = 0; kind = plain_kind command; tag = 0; error = 0 }
+flat_entry (entry.Zero lba sectors) = record { lba = lba; sectors = sectors; kind = 11; tag = 0; error = 0 }

@@ -34,7 +34,8 @@ abbrev pub kind_named : FlatEntry → EventKind
 kind_named e =
     if e.kind == 8 then kind.Plain Identify
     else (if e.kind == 9 then kind.Plain Flush
-    else (if nat_lt e.tag 32 then tagged e e.tag else nameless))
+    else (if e.kind == 11 then kind.Zero e.lba e.sectors
+    else (if nat_lt e.tag 32 then tagged e e.tag else nameless)))
 
 -- an error is one byte
 abbrev pub HasByteError : EventKind → Type 0

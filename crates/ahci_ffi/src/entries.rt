@@ -71,6 +71,11 @@ pub(crate) fn flat_entry<A: Allocator>(event: &Event<A>) -> FlatEntry
         Event::Reissue(tag) => of_tag(6, *tag),
         Event::Collect(tag) => of_tag(7, *tag),
         Event::Plain(command) => of_tag(plain_kind(*command), 0),
+        Event::Zero { lba, sectors } => FlatEntry {
+            lba: *lba,
+            sectors: *sectors,
+            ..of_tag(11, 0)
+        },
     }
 }
 

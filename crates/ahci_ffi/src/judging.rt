@@ -39,6 +39,10 @@ impl NamesEvent for FlatEntry {
         match self.kind {
             8 => EventKind::Plain(Plain::Identify),
             9 => EventKind::Plain(Plain::Flush),
+            11 => EventKind::Zero {
+                lba: self.lba,
+                sectors: self.sectors,
+            },
             _ if self.tag < 32 => tagged(self, self.tag as u8),
             _ => EventKind::Plain(Plain::ReadLog),
         }

@@ -7,21 +7,26 @@ use Rattle.ahci_script.specs.declared.line.Line.TheVariants as line
 use Rattle.ahci_script.specs.declared.line.ScriptCommand.{ScriptCommand}
 use Rattle.ahci_script.specs.declared.line.ScriptCommand.TheVariants.{Disk}
 use Rattle.ahci_script.proofs.ReadBackLemmas.{read_back}
-use Rattle.ncq_journal.specs.Entry.{Entry, Issue, entry_of}
+use Rattle.ncq_journal.specs.Entry.{Entry, Issue, Zero, entry_of}
 use Rattle.ncq_journal.specs.History.{history_of}
 use Rattle.ncq_journal.specs.Lawful.{IsAllowed, IsLawful, IsProperEntry}
 use Rattle.ncq_journal.specs.declared.event.Event.{Event}
 use Rattle.ncq_journal.proofs.LawfulLemmas.{allowed_at}
-use Rattle.ahci_jobs.specs.Scripts.{AreLinesRead, command_line, entry_command, entry_lines, script_text}
+use Rattle.ahci_jobs.specs.Scripts.{AreLinesRead, command_line, comment_of, entry_command, entry_lines, script_text}
 
 -- a line is read as the command that it was made of
-line_read : (command : Option ScriptCommand) → MatchOption command
-    (reading (command_line command) ≡ Ok line.Skip) (λ c. IsInRange c → reading (command_line command) ≡ Ok (line.Run c))
-line_read None = refl
-line_read (Some command) = read_back command
+line_read : (comment : List ℕ) (command : Option ScriptCommand) → reading comment ≡ Ok line.Skip → MatchOption command
+    (reading (command_line comment command) ≡ Ok line.Skip) (λ c. IsInRange c → reading (command_line comment command) ≡ Ok (line.Run c))
+line_read comment None skipped = skipped
+line_read comment (Some command) skipped = read_back command
+
+-- a comment is passed over
+comment_read : (entry : Entry) → reading (comment_of entry) ≡ Ok line.Skip
+comment_read (Zero lba sectors) = refl
+comment_read _ = refl
 
 pub lines_read : AreLinesRead
-lines_read issued entry = line_read (entry_command issued entry)
+lines_read issued entry = line_read (comment_of entry) (entry_command issued entry) (comment_read entry)
 
 -- an entry that may come next issues a command that can be issued, if it issues one
 proper_next : (s d : ℕ) (past : List Entry) (entry : Entry) → IsAllowed s d past entry → IsProperEntry entry

@@ -6,7 +6,7 @@ use Rattle.ahci_script.specs.Printing.{IsInRange, printed}
 use Rattle.ahci_script.specs.declared.line.Line.TheVariants as line
 use Rattle.ahci_script.specs.declared.line.ScriptCommand.{ScriptCommand}
 use Rattle.ahci_script.specs.declared.line.ScriptCommand.TheVariants as command
-use Rattle.ncq_journal.specs.Entry.{Entry, Issue, Accept, Complete, Fail, Recover, Reissue, Collect, Unqueued}
+use Rattle.ncq_journal.specs.Entry.{Entry, Issue, Accept, Complete, Fail, Recover, Reissue, Collect, Unqueued, Zero}
 use Rattle.ncq_journal.specs.Request.{Request, request}
 use Rattle.ncq_journal.specs.Work.{Work, Read, Write, lba_of, sectors_of}
 use Rattle.ncq_journal.specs.declared.plain.Plain.{Plain}
@@ -43,7 +43,7 @@ unqueued_command Identify = Some (command.Identify 0)
 unqueued_command Flush = Some command.Flush
 unqueued_command ReadLog = None
 
--- the command that appends an entry, where its tag's request is so
+-- the command that appends an entry, where its tag's request is so; the language has none that makes sectors zeros
 abbrev pub entry_command : (ℕ → Issued) → Entry → Option ScriptCommand
 entry_command issued (Issue tag work) = Some (issue_command tag work)
 entry_command issued (Accept tag) = Some (command.Accept tag)
@@ -53,14 +53,20 @@ entry_command issued (Recover tag) = Some command.Recover
 entry_command issued (Reissue tag) = Some (command.Reissue tag)
 entry_command issued (Collect tag) = Some (collect_command (issued tag) tag)
 entry_command issued (Unqueued command) = unqueued_command command
+entry_command issued (Zero lba sectors) = None
+
+-- the comment of an entry without a command
+abbrev pub comment_of : Entry → List ℕ
+comment_of (Zero lba sectors) = codes "# DATA SET MANAGEMENT"
+comment_of entry = codes "# READ LOG EXT"
 
 -- a command as it is printed; none is a comment
-abbrev pub command_line : Option ScriptCommand → List ℕ
-command_line None = codes "# READ LOG EXT"
-command_line (Some command) = printed command
+abbrev pub command_line : List ℕ → Option ScriptCommand → List ℕ
+command_line comment None = comment
+command_line comment (Some command) = printed command
 
 abbrev pub entry_line : (ℕ → Issued) → Entry → List ℕ
-entry_line issued entry = command_line (entry_command issued entry)
+entry_line issued entry = command_line (comment_of entry) (entry_command issued entry)
 
 -- the lines of a journal, the oldest entry's first
 abbrev pub entry_lines : ℕ → List Entry → List ℕ

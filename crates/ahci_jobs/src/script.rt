@@ -8,7 +8,7 @@ ghost use Rattle.ncq_journal.specs.History.{history_of};
 ghost use Rattle.ncq_journal.specs.Lawful.{IsLawful, IsProper, IsProperEntry};
 ghost use Rattle.ncq_journal.specs.Work.{sectors_of, work_of};
 ghost use Rattle.ahci_jobs.specs.Noted.{AreNoted};
-ghost use Rattle.ahci_jobs.specs.Scripts.{collect_command, entry_command, entry_line, entry_lines, fail_command, issue_command, issued_in, script_text, unqueued_command};
+ghost use Rattle.ahci_jobs.specs.Scripts.{collect_command, comment_of, entry_command, entry_line, entry_lines, fail_command, issue_command, issued_in, script_text, unqueued_command};
 
 use crate::issued::{Issued, TAGS};
 use ahci_port::Port;
@@ -87,7 +87,7 @@ fn unqueued_command(command: Plain) -> Option<ScriptCommand<'static>>
     }
 }
 
-/// The command that appends an entry to a journal, of whose tags this is kept. READ LOG EXT has none.
+/// The command that appends an entry to a journal, of whose tags this is kept. READ LOG EXT and sectors that become zeros have none.
 fn entry_command<A: Allocator>(
     kept: &[Issued; TAGS],
     event: &Event<A>,
@@ -107,10 +107,21 @@ fn entry_command<A: Allocator>(
         Event::Reissue(tag) => Some(ScriptCommand::Reissue { tag: *tag }),
         Event::Collect(tag) => Some(collect_command(kept[usize::from(*tag)], *tag)),
         Event::Plain(command) => unqueued_command(*command),
+        Event::Zero { .. } => None,
     }
 }
 
-/// Appends the line of an entry of a journal, of whose tags this is kept. READ LOG EXT is a comment.
+/// The comment of an entry without a command.
+fn comment_of<A: Allocator>(event: &Event<A>) -> &'static [u8]
+    ensures { result.now ≡ comment_of (entry_of event.now) }
+{
+    match event {
+        Event::Zero { .. } => b"# DATA SET MANAGEMENT",
+        _ => b"# READ LOG EXT",
+    }
+}
+
+/// Appends the line of an entry of a journal, of whose tags this is kept. One without a command is a comment.
 fn push_entry<A: Allocator, B: Allocator>(
     text: &mut TextBuffer<A>,
     kept: &[Issued; TAGS],
@@ -122,7 +133,7 @@ fn push_entry<A: Allocator, B: Allocator>(
 {
     match entry_command(kept, event) {
         Some(command) => push_command(text, &command),
-        None => text.push(b"# READ LOG EXT"),
+        None => text.push(comment_of(event)),
     }
 }
 
