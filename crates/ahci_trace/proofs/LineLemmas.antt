@@ -128,6 +128,7 @@ details-line (what.Recover tag) = decimal-line tag
 details-line (what.Reissue tag) = decimal-line tag
 details-line (what.Collect tag) = decimal-line tag
 details-line (what.Plain command) = refl
+details-line (what.Zero lba sectors) = line-append (decimal lba) (codes " " ++ decimal sectors) (decimal-line lba) (decimal-line sectors)
 
 what-line : (w : EventKind) → is_line (what_text w) ≡ true
 what-line w = line-append (kind_name w) (details_text w) (kind-line w) (details-line w)

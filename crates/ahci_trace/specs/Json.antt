@@ -80,6 +80,7 @@ what_members (what.Recover tag) = number_member (codes "tag") tag
 what_members (what.Reissue tag) = number_member (codes "tag") tag
 what_members (what.Collect tag) = number_member (codes "tag") tag
 what_members (what.Plain command) = []
+what_members (what.Zero lba sectors) = number_member (codes "lba") lba ++ number_member (codes "sectors") sectors
 
 -- a new entry
 unfoldable pub entry_object : Appended → List Token

@@ -61,6 +61,7 @@ kind_name (what.Recover tag) = codes "recover"
 kind_name (what.Reissue tag) = codes "reissue"
 kind_name (what.Collect tag) = codes "collect"
 kind_name (what.Plain command) = plain_name command
+kind_name (what.Zero lba sectors) = codes "zero"
 
 -- what an entry says of its command
 abbrev pub details_text : EventKind → List ℕ
@@ -73,6 +74,7 @@ details_text (what.Recover tag) = codes " " ++ decimal tag
 details_text (what.Reissue tag) = codes " " ++ decimal tag
 details_text (what.Collect tag) = codes " " ++ decimal tag
 details_text (what.Plain command) = []
+details_text (what.Zero lba sectors) = codes " " ++ (decimal lba ++ (codes " " ++ decimal sectors))
 
 -- what an entry says
 abbrev pub what_text : EventKind → List ℕ

@@ -18,6 +18,7 @@ pub(crate) fn kind_name(what: EventKind) -> &'static str
         EventKind::Reissue(_) => "reissue",
         EventKind::Collect(_) => "collect",
         EventKind::Plain(plain) => plain_name(plain),
+        EventKind::Zero { .. } => "zero",
     }
 }
 

@@ -74,6 +74,10 @@ impl Note for EventKind {
                 text.push_number(b" ", lba)
             }
             EventKind::Plain(_) => Ok(()),
+            EventKind::Zero { lba, sectors } => {
+                text.push_number(b" ", lba)?;
+                text.push_number(b" ", sectors)
+            }
         }
     }
 }

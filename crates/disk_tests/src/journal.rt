@@ -3,7 +3,7 @@ mod counting;
 mod telling;
 
 use Look::{Byte, Entries, Owed, Stands, Tags};
-use Note::{Accept, Collect, Complete, Fail as Failing, Read, Recover, Reissue, Write};
+use Note::{Accept, Collect, Complete, Fail as Failing, Read, Recover, Reissue, Write, Zero};
 use Step::{Answer, Failure, Falling, Never, Next, Rising, Shows};
 use ncq_journal::{Outcome, Phase, Plain};
 use std::test::Fail;
@@ -38,6 +38,25 @@ static READ_BETWEEN_WRITES: [Step; 6] = [
 #[test]
 fn a_read_between_two_writes_has_the_first_completed(rt: HostRuntime) -> Result<(), Fail> {
     tells(&rt, rt.alloc(), 8, 3, READ_BETWEEN_WRITES.as_slice())
+}
+
+static ZEROS: [Step; 11] = [
+    Next(&[Write(0, 3, 0xaa), Accept(0), Complete(0), Collect(0)]),
+    Never(&[Zero(3, 0), Zero(7, 2), Zero(8, 1), Zero(u64::MAX, 1)]),
+    Next(&[Zero(2, 2)]),
+    Shows(Byte(3, Some(0))),
+    Next(&[Read(0, 2, 2)]),
+    Never(&[Zero(0, 8)]),
+    Next(&[Accept(0), Complete(0), Collect(0), Write(1, 3, 0xbb)]),
+    Next(&[Accept(1), Complete(1), Zero(4, 4)]),
+    Answer(5, 7, Outcome::Read, Some(0)),
+    Shows(Byte(3, Some(0xbb))),
+    Shows(Stands(1, Phase::Done)),
+];
+
+#[test]
+fn a_zero_counts_until_its_sectors_are_written(rt: HostRuntime) -> Result<(), Fail> {
+    tells(&rt, rt.alloc(), 8, 2, ZEROS.as_slice())
 }
 
 static STRANGERS: [Step; 11] = [

@@ -104,6 +104,10 @@ impl Item for EventKind {
                 Member("lba", Value::Number(lba)),
             ]),
             EventKind::Plain(_) => Ok(()),
+            EventKind::Zero { lba, sectors } => tokens.put_each(&[
+                Member("lba", Value::Number(lba)),
+                Member("sectors", Value::Number(u64::from(sectors))),
+            ]),
         }
     }
 }

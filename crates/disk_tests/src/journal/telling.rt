@@ -22,6 +22,7 @@ pub enum Note {
     Reissue(u8),
     Collect(u8),
     Plain(Plain),
+    Zero(u64, u32),
 }
 
 /// What a journal says.
@@ -70,6 +71,7 @@ impl Note {
             Note::Reissue(_) => Note::Reissue(tag),
             Note::Collect(_) => Note::Collect(tag),
             Note::Plain(command) => Note::Plain(command),
+            Note::Zero(lba, sectors) => Note::Zero(lba, sectors),
         }
     }
 }
@@ -88,6 +90,7 @@ fn event_of(alloc: Global, note: Note) -> Result<Event, AllocError> {
         Note::Reissue(tag) => Event::Reissue(tag),
         Note::Collect(tag) => Event::Collect(tag),
         Note::Plain(command) => Event::Plain(command),
+        Note::Zero(lba, sectors) => Event::Zero { lba, sectors },
     })
 }
 

@@ -4,13 +4,15 @@ use super::lists::{AFTER_A_FAILURE, IN_ITS_ORDER};
 use super::resetting;
 use super::telling::Row::{
     Accepts, Acknowledge, Collect, Entries, Flush, Identify, Issue, Received, Register, Sector,
-    Serves,
+    Serves, Step, Zero,
 };
 use super::telling::{Row, goes_on, port_of};
-use ahci_port::PlainFault;
+use ahci_port::Stepped::Failed;
+use ahci_port::{PlainFault, ZeroFault};
 use ahci_regs::RegFault;
 use ncq_journal::Outcome;
 use std::test::Fail;
+use test_helpers::FAIL_1_AT_7;
 
 const REGISTERS: &[Row] = &[
     Issue(0, 1, Some(0xAA), Ok(0)),
@@ -56,10 +58,29 @@ const UNQUEUED: &[Row] = &[
     Entries(8),
 ];
 
+const ZEROS: &[Row] = &[
+    Issue(0, 3, Some(0xAA), Ok(0)),
+    Zero(0, 8, Err(ZeroFault::QueueBusy)),
+    Accepts(&[0], 1),
+    Serves(&[0], 2, 1),
+    Zero(0, 8, Err(ZeroFault::SlotOwned)),
+    Collect(0, 0, Ok((2, Outcome::Wrote, 0xAA))),
+    Zero(0, 0, Err(ZeroFault::NoSuchSector)),
+    Zero(7, 2, Err(ZeroFault::NoSuchSector)),
+    Sector(3, 0xAA),
+    Zero(2, 2, Ok(())),
+    Sector(3, 0),
+    Entries(5),
+    Issue(1, 7, Some(0xBB), Ok(5)),
+    Accepts(&[1], 6),
+    Step(FAIL_1_AT_7, Ok(Failed(7))),
+    Zero(0, 1, Err(ZeroFault::Halted)),
+];
+
 /// What a story shows, how many sectors of zeros and how many slots its port has, and its rows.
 type Story = (&'static str, usize, u32, &'static [Row]);
 
-static STORIES: [Story; 11] = [
+static STORIES: [Story; 12] = [
     ("a command moves the registers", 8, 4, REGISTERS),
     (
         "a read sees the writes served before it",
@@ -68,6 +89,7 @@ static STORIES: [Story; 11] = [
         READ_BETWEEN_WRITES,
     ),
     ("unqueued commands wait for the queue", 1000, 32, UNQUEUED),
+    ("sectors become zeros while no slot is owned", 8, 4, ZEROS),
     (
         "an error in a queue is recovered",
         1000,

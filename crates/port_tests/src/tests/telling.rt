@@ -4,7 +4,7 @@ ghost use Rattle.std.specs.Prelude.{◌≤◌, ◌<◌};
 use crate::tests::table::equal;
 use ahci_port::{
     CollectFault, IssueFault, PlainFault, Port, RecoverFault, ReissueFault, Reply, ResetFault,
-    StepFault, Stepped, SubmitFault,
+    StepFault, Stepped, SubmitFault, ZeroFault,
 };
 use ahci_regs::RegFault;
 use ahci_table::{Window, default_pieces};
@@ -37,6 +37,8 @@ pub enum Row {
     /// A word of the identify page, low byte first.
     Identify(usize, Result<[u8; 2], PlainFault>),
     Flush(Result<(), PlainFault>),
+    /// So many sectors from an LBA on become zeros.
+    Zero(u64, u32, Result<(), ZeroFault>),
     Acknowledge(u32),
     Register(u32, Result<u32, RegFault>),
     /// Eight bytes of the received FIS area.
@@ -216,6 +218,7 @@ pub fn goes<L: Debug + Copy>(
         }
         Row::Identify(word, answer) => equal(rt, row, &identify(port, word), &answer),
         Row::Flush(answer) => equal(rt, row, &port.flush(), &answer),
+        Row::Zero(lba, sectors, answer) => equal(rt, row, &port.zero(lba, sectors), &answer),
         Row::Acknowledge(mask) => port.acknowledge(mask),
         Row::Register(off, word) => equal(rt, row, &port.register(off), &word),
         Row::Received(at, bytes) => {

@@ -2,6 +2,7 @@
 use ahci_port::{
     BuildFault, CollectFault, DiskFault, IssueFault, PlainFault, RecoverFault, Refusal, RegFault,
     ReissueFault, ResetFault, ResumeFault, StepFault, SubmitFault, TrimFault, WriteFault,
+    ZeroFault,
 };
 use ahci_table::TableFault;
 use std::alloc::Global;
@@ -176,7 +177,15 @@ fn a_fault_of_a_command_s_way_shows_its_refusal(rt: HostRuntime) -> Result<(), F
         PlainFault::QueueBusy,
         PlainFault::OutOfMemory,
     ];
-    refuses(&rt, alloc, &plains)
+    refuses(&rt, alloc, &plains)?;
+    let zeros = [
+        ZeroFault::Halted,
+        ZeroFault::QueueBusy,
+        ZeroFault::SlotOwned,
+        ZeroFault::NoSuchSector,
+        ZeroFault::OutOfMemory,
+    ];
+    refuses(&rt, alloc, &zeros)
 }
 
 #[test]

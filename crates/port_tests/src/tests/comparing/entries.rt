@@ -22,6 +22,7 @@ pub fn copy_of(alloc: Global, event: &Event) -> Result<Event, AllocError> {
         Event::Reissue(tag) => Event::Reissue(tag),
         Event::Collect(tag) => Event::Collect(tag),
         Event::Plain(command) => Event::Plain(command),
+        Event::Zero { lba, sectors } => Event::Zero { lba, sectors },
     })
 }
 
