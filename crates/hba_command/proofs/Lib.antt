@@ -1,3 +1,4 @@
+pub mod TrimLemmas
 pub mod UncorrectableLemmas
 pub mod WideNameLemmas
 pub mod HostLogLemmas
