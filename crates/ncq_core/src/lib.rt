@@ -16,9 +16,10 @@ pub use disk_fault::DiskFault;
 pub use host::Host;
 pub use ncq_journal::{
     Answer, Bytes, Claim, Event, Journal, LBA_LIMIT, MAX_COUNT, Op, OutOfMemory, Outcome, Phase,
-    Plain, Request, answer_of, ci_of, claims_hold, device_tags_of, entry_in, is_allowed, is_busy,
-    is_covered, is_halted, is_lawful, is_proper, is_within, lie_on, owed_by, phase_after, phase_of,
-    read_sectors, request_of, sact_of, sector_in, sector_of, write_sectors, zero_sectors, zeroed,
+    Plain, Request, after_zero, answer_of, ci_of, claims_hold, device_tags_of, entry_in,
+    is_allowed, is_busy, is_covered, is_halted, is_lawful, is_proper, is_within, lie_on, owed_by,
+    phase_after, phase_of, read_sectors, request_of, sact_of, sector_in, sector_of, write_sectors,
+    zero_sectors,
 };
 pub use serve_fault::ServeFault;
 pub use taken::Taken;

@@ -38,7 +38,8 @@ pub use phase::{Phase, phase_after, phase_of};
 pub use plain::Plain;
 pub use request::{Request, request_of};
 pub use sector::{
-    is_covered, is_within, read_sectors, sector_in, sector_of, write_sectors, zero_sectors, zeroed,
+    after_zero, is_covered, is_within, read_sectors, sector_in, sector_of, write_sectors,
+    zero_sectors,
 };
 pub use std::alloc::AllocError as OutOfMemory;
 pub use tags::{ci_of, device_tags_of, sact_of};

@@ -71,7 +71,7 @@ fn zero_sector() -> &'static [u8]
 }
 
 /// A sector once so many sectors from `first` on are zeros, where its bytes were `before`.
-pub fn zeroed(first: u64, sectors: u32, lba: u64, before: &[u8]) -> &[u8]
+pub fn after_zero(first: u64, sectors: u32, lba: u64, before: &[u8]) -> &[u8]
     ensures { result.now ≡ zeroed first sectors lba before.now }
 {
     if is_within(first, sectors, lba) {
@@ -121,7 +121,7 @@ pub fn sector_of<'a, A: Allocator>(image: &'a [u8], events: &'a [Event<A>], lba:
             Event::Zero {
                 lba: first,
                 sectors,
-            } => bytes = zeroed(*first, *sectors, lba, bytes),
+            } => bytes = after_zero(*first, *sectors, lba, bytes),
             _ => {}
         }
     }

@@ -8,7 +8,7 @@ ghost use Rattle.ncq_journal.specs.Sector.{completed};
 ghost use Rattle.power_loss.specs.Leaving.{DoneMayLeave, LeavesAfter, MayBeLeft, OutstandingMayLeave, SomeMayLeave, Writes, Zeroes, after_entry};
 
 use ncq_journal::{
-    Event, Op, Plain, Request, is_covered, is_within, phase_of, request_of, sector_in, zeroed,
+    Event, Op, Plain, Request, after_zero, is_covered, is_within, phase_of, request_of, sector_in,
 };
 use std::alloc::Allocator;
 
@@ -32,7 +32,7 @@ fn writes<A: Allocator>(request: Option<Request<A>>, lba: u64, bytes: &[u8]) -> 
 fn zeroes(first: u64, sectors: u32, lba: u64, bytes: &[u8]) -> bool
     ensures { IsTrue result ↔ Zeroes lba bytes.now first sectors }
 {
-    is_within(first, sectors, lba) && zeroed(first, sectors, lba, bytes) == bytes
+    is_within(first, sectors, lba) && after_zero(first, sectors, lba, bytes) == bytes
 }
 
 /// The sector once a request is completed, where its bytes were `now`.
@@ -64,7 +64,7 @@ fn after_event<'a, A: Allocator>(
         Event::Zero {
             lba: first,
             sectors,
-        } => zeroed(*first, *sectors, lba, now),
+        } => after_zero(*first, *sectors, lba, now),
         _ => now,
     }
 }
