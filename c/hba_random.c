@@ -321,6 +321,23 @@ static uint32_t bytes_of_pages(const uint8_t *fis)
     return is_counted ? 512u * fis[12] : fis[2] == 0xEC || fis[2] == 0xB0 || fis[2] >> 4 == 0xE ? 512 : 0;
 }
 
+/* The log, page and count of the last write of a log in this run, of which a later command reads. */
+static uint8_t logged[3];
+static bool has_logged;
+
+/* Half of the commands that aren't queued read the log that was written last. */
+static void read_back(uint8_t *fis, uint8_t odd)
+{
+    if (fis[2] == 0x3F || fis[2] == 0x57) {
+        logged[0] = fis[4], logged[1] = fis[5], logged[2] = fis[12];
+        has_logged = true;
+    } else if (has_logged && odd & 2) {
+        fis[2] = odd & 4 ? 0x2F : 0x47;
+        fis[3] = fis[6] = fis[9] = 0;
+        fis[4] = logged[0], fis[5] = logged[1], fis[12] = logged[2];
+    }
+}
+
 /* Lays out a command in a slot, and issues it. */
 static void command(void)
 {
@@ -343,6 +360,8 @@ static void command(void)
         fis[12] = is_long ? 1 + far / 4 % 3 : many % 16 ? 1 : 2;
     }
     asks_more(fis, far, many);
+    if (!queued)
+        read_back(fis, odd);
     if (is_control) /* with SRST or without */
         fis[1] = 0, fis[15] = odd >> 5 & 4;
     if (odd % 64 == 28)
@@ -678,6 +697,7 @@ int LLVMFuzzerTestOneInput(const uint8_t *bytes, size_t count)
     left = count;
     can = capabilities();
     depth = byte() % 2 ? 32 : 1 + byte() % 32;
+    has_logged = false;
     begin();
     if (byte() % 16)
         start();
