@@ -1,2 +1,3 @@
+pub mod TrimLemmas
 pub mod UncorrectableLemmas
 pub mod WideNameLemmas

@@ -7,6 +7,7 @@ pub mod DiskPage
 pub mod Store
 pub mod CommandFis
 pub mod Task
+pub mod TrimRange
 pub mod Action
 pub mod Addressing
 pub mod Power

@@ -36,7 +36,7 @@ pub(crate) fn store_addressing(store: &Store) -> Addressing
 }
 
 /// The LBA Range Entry of a number.
-fn entry_at(bytes: &[u8], index: usize) -> u64
+pub(crate) fn entry_at(bytes: &[u8], index: usize) -> u64
     requires { 8 * index + 8 ≤ length bytes.now }
     ensures { result ≡ number (8 * index) 8 bytes.now }
 {

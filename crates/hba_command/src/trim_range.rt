@@ -1,0 +1,38 @@
+//! The sectors that DATA SET MANAGEMENT with TRIM names (ACS-3, "LBA Range Entry").
+
+ghost use Rattle.std.specs.Prelude.{◌≡◌, ◌<◌, ◌≤◌, ◌/◌, ◌^◌, length, IfSome};
+ghost use Rattle.hba_command.specs.TrimRange.{IsOnDisk, range_at, range_of};
+
+use crate::store::entry_at;
+
+/// Some sectors that an LBA Range Entry names, one after the other: 1 to 65,535 of them, from an LBA below 2^48 on.
+#[derive(Clone, Copy, Debug, PartialEq, Eq)]
+pub struct TrimRange {
+    /// The first sector.
+    pub lba: u64,
+    /// How many sectors of 512 bytes.
+    pub sectors: u32,
+}
+
+/// The sectors of an LBA Range Entry, if it names any.
+fn range_of(entry: u64) -> Option<TrimRange>
+    ensures value { result ≡ range_of entry }
+    ensures some { IfSome result (λ range. (range.lba < 2 ^ 48) × (1 ≤ range.sectors) × (range.sectors ≤ 65535)) }
+{
+    let sectors = (entry >> 48) as u32;
+    if sectors == 0 {
+        return None;
+    }
+    let lba = entry % (1 << 48);
+    Some(TrimRange { lba, sectors })
+}
+
+/// The sectors of an entry of the data by its number, of which there is one for eight bytes; nothing if it names none.
+pub fn range_at(bytes: &[u8], index: usize) -> Option<TrimRange>
+    requires { index < length bytes.now / 8 }
+    ensures value { result ≡ range_at bytes.now index }
+    ensures some { IfSome result (λ range. (range.lba < 2 ^ 48) × (1 ≤ range.sectors) × (range.sectors ≤ 65535)) }
+    ensures on_disk { IsOnDisk bytes.now result }
+{
+    range_of(entry_at(bytes, index))
+}
