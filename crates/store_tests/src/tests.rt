@@ -1,3 +1,5 @@
+mod zeroing;
+
 ghost use Rattle.std.specs.Prelude.{◌≡◌, length};
 
 use refusing_allocator::{Refusals, Refusing};
