@@ -4,8 +4,7 @@ use Rattle.std.specs.List.{list_any}
 use Rattle.std.specs.Option.{option_map, option_or}
 use Rattle.std.proofs.lemmas.Bool.Decides.{nat_tests}
 use Rattle.ahci_regs.specs.PortState.{PortState}
-use Rattle.sector_store.specs.Reserved.{StayReserved}
-use Rattle.ncq_core.specs.DiskState.{DiskState, is_reserved_in}
+use Rattle.ncq_core.specs.DiskState.{DiskState}
 use Rattle.ncq_journal.specs.Entry.{Entry, Zero}
 use Rattle.ncq_journal.specs.Halted.{busy, halted}
 use Rattle.ncq_journal.specs.Image.{IsZeroedOver, zeroed}
@@ -20,7 +19,6 @@ use Rattle.ahci_port.specs.PortView.{PortView, sectors_in}
 use Rattle.ahci_port.specs.Slots.{SlotState}
 use Rattle.ahci_port.specs.declared.fault.PlainFault.{PlainFault}
 use Rattle.ahci_port.specs.declared.fault.ZeroFault.TheVariants as zero
-use Rattle.ahci_port.proofs.IssuingLemmas.{keeps_reserved}
 use Rattle.ahci_port.proofs.TrimmingLemmas.{all_free}
 
 -- what no refusal says: no slot is owned, and the sectors are the disk's
@@ -46,25 +44,6 @@ zero_may port lba sectors h = by (plain_refusal port) h
     by : (o : Option PlainFault) → option_or (option_map zero_fault_of o) (run_refusal port lba sectors) ≡ None → IsTaken port lba sectors
     by None e = run_may port lba sectors e
     by (Some fault) e = absurd (cc)
-
--- a store that lacks memory for it has changed no sector, and more room is reserved
-pub keeps_still : (starting : List ℕ) (disk : DiskState) (regs : PortState) (slots : List (Option SlotState)) (headers : List (List ℕ)) (past : List Entry) (free left : ℕ)
-    (reserved : List Bool) → Keeps starting disk regs slots headers past free → StayReserved (is_reserved_in disk.reserved) (is_reserved_in reserved) → free ≤ left
-    → Keeps starting (record disk { reserved = reserved }) regs slots headers past left
-keeps_still starting disk regs slots headers past free left reserved k stay more =
-    let r = keeps_reserved starting disk regs slots headers past free reserved k stay in
-    record {
-      shape = r.shape;
-      lawful = r.lawful;
-      tracks = r.tracks;
-      sectors = r.sectors;
-      commands = r.commands;
-      error_is = r.error_is;
-      each = r.each;
-      listed = r.listed;
-      reserved = r.reserved;
-      room = (let o = r.room in omega arith);
-    }
 
 -- sectors become zeros
 pub keeps_zero : (starting : List ℕ) (disk : DiskState) (regs : PortState) (slots : List (Option SlotState)) (headers : List (List ℕ)) (past : List Entry) (free left : ℕ)

@@ -251,9 +251,3 @@ pub record IsZeroed (lba sectors : ℕ) (old new : PortView) : Type 0 where
   pub zeros : IsZeroedOver lba sectors old.image new.image
   pub room : ReservesRoom old new
   pub rest_same : new ≡ record old { image = new.image; past = new.past; room = new.room; held = new.held }
-
--- nothing has changed but for the journal's memory, of which there may be more
-pub record GrowsRoom (old new : PortView) : Type 0 where
-  pub rest_same : new ≡ record old { room = new.room; held = new.held }
-  pub room_more : old.room ≤ new.room
-  pub held_more : old.held ≤ new.held

@@ -8,11 +8,11 @@ mod moving;
 mod serving;
 mod taking;
 
-ghost use Rattle.std.specs.Prelude.{◌≡◌, ◌+◌, ◌*◌, ◌/◌, ◌<◌, ◌≤◌, ◌^◌, None, Some, false, true, ◌&&◌, length, is_some, IfOk, IfErr, IfSome, OnOk, OnErr};
+ghost use Rattle.std.specs.Prelude.{◌≡◌, ◌⊎◌, ◌+◌, ◌*◌, ◌/◌, ◌<◌, ◌≤◌, ◌^◌, None, Some, false, true, ◌&&◌, length, is_some, IfOk, IfErr, IfSome, OnOk, OnErr};
 ghost use Rattle.std.specs.Option.{option_copied};
 ghost use Rattle.word_bits.specs.Places.{bits};
 ghost use Rattle.ncq_journal.specs.Image.{IsZeroedOver, sector_at};
-ghost use Rattle.sector_store.specs.{Reserved.{AreReserved, StayReserved}, Shown.{ChangesAmong}};
+ghost use Rattle.sector_store.specs.{Reserved.{AreReserved, StayReserved}, Room.{MakesRoom}, Shown.{ChangesAmong}};
 ghost use Rattle.ncq_core.specs.DiskState.{IsDisk, command_of, disk_over, disk_sectors, is_bad_depth, is_reserved_in, is_stopped, new_disk, new_fault, no_commands, outstanding, over_fault, reserved_of, size_fault};
 ghost use Rattle.ncq_core.specs.DiskFis.{completed_bytes, pio_bytes, flushed_bytes};
 ghost use Rattle.ncq_core.specs.Serving.{HasRoom};
@@ -24,6 +24,7 @@ pub use crate::disk::identify::identify_page;
 pub use crate::disk::log::log_page;
 use crate::disk::moving::DATA_FIS;
 use crate::disk_fault::DiskFault;
+use ncq_journal::Journal;
 use sata_fis::Queued;
 use sector_store::{SectorStore, Sectors, Single, Whole};
 use std::alloc::{AllocError, Allocator};
@@ -253,21 +254,30 @@ impl<S: SectorStore> Disk<S> {
         Ok(())
     }
 
-    /// Makes these sectors zeros, and gives the memory back that the store no longer needs for them. What was reserved of them may no longer be.
+    /// Makes these sectors zeros, and gives the memory back that the store no longer needs for them. Before the first of them changes, a journal has room
+    /// for `count` more entries. What was reserved of them may no longer be.
     ///
     /// # Errors
-    /// If there is no memory, which only a store lacks that grows. No sector changes then, and what was reserved is.
+    /// If there is no memory for the sectors, which only a store lacks that grows, or for the room. No sector and no room changes then, and what was reserved is.
     #[tactic(auto, using(crate::proofs::DiskLemmas::is_disk_moved, crate::proofs::ReservedLemmas::listed_stay))]
-    pub fn zero(&mut self, lba: u64, sectors: u64) -> Result<(), AllocError>
+    pub fn zero<J: Allocator>(
+        &mut self,
+        lba: u64,
+        sectors: u64,
+        journal: &mut Journal<J>,
+        count: u64,
+    ) -> Result<(), AllocError>
         requires { lba + sectors ≤ disk_sectors self.old }
         ensures ok { OnOk result (IsZeroedOver lba sectors self.old.image self.new.image) }
         ensures err { OnErr result (self.new.image ≡ self.old.image) }
-        ensures lacking { OnErr result ((S.can_grow && self.old.grows) ≡ true) }
+        ensures room { OnOk result (MakesRoom count journal.old journal.new) }
+        ensures journal { OnErr result (journal.new ≡ journal.old) }
+        ensures lacking { OnErr result (((S.can_grow && self.old.grows) ≡ true) ⊎ (journal.old.held < length journal.old.past + count)) }
         ensures len { length self.new.image ≡ length self.old.image }
         ensures held { OnErr result (StayReserved (is_reserved_in self.old.reserved) (is_reserved_in self.new.reserved)) }
         ensures state { self.new ≡ record self.old { image = self.new.image; reserved = self.new.reserved } }
     {
-        self.store.zero(lba, sectors)
+        self.store.zero(lba, sectors, journal, count)
     }
 
     /// Keeps the sectors as they are now. It takes no memory, and what was reserved may no longer be.

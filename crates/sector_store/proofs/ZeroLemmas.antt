@@ -330,16 +330,24 @@ cleared_more below lba n from m k a b c next sum first then =
           | inr late ↦ inr (omega arith, omega arith)
         ]
 
+-- nothing showed a change before sectors became zeros
+pub cleared_behind : (below : ℕ → List ℕ) (inside : ℕ → Bool) (a b c : ℕ → Option Layers) → ShowSame below a b → IsCleared below inside b c → IsCleared below inside a c
+cleared_behind below inside a b c same is = record {
+  now = λ s. is.now s ∙ ap (cond (inside s) zero_sector) (same.now s);
+  kept = λ s. is.kept s ∙ same.kept s;
+  stay = λ s out was. is.stay s out (same.stay (s / 8) was);
+}
+
 -- the whole pages in the middle first, then what is before them and after them
-pub cleared_three : (below : ℕ → List ℕ) (lba n front back : ℕ) (a b c d e : ℕ → Option Layers) → lba ≤ front → front ≤ back → back ≤ lba + n
-    → ((8 * (front / 8) ≡ front) ⊎ (front ≡ lba + n)) → ((8 * (back / 8) ≡ back) ⊎ (back ≡ front)) → ShowSame below a b
+pub cleared_three : (below : ℕ → List ℕ) (lba n front back : ℕ) (b c d e : ℕ → Option Layers) → lba ≤ front → front ≤ back → back ≤ lba + n
+    → ((8 * (front / 8) ≡ front) ⊎ (front ≡ lba + n)) → ((8 * (back / 8) ≡ back) ⊎ (back ≡ front))
     → IsCleared below (is_within (8 * (front / 8)) (8 * (back / 8 - front / 8))) b c → IsCleared below (is_within lba (front - lba)) c d → IsCleared below (is_within back (lba + n - back)) d e
-    → IsCleared below (is_within lba n) a e
-cleared_three below lba n front back a b c d e low order high whole whole' same middle first last =
-    after (cleared_both below (is_within lba (back - lba)) (is_within back (lba + n - back)) (is_within lba n) b d e
+    → IsCleared below (is_within lba n) b e
+cleared_three below lba n front back b c d e low order high whole whole' middle first last =
+    cleared_both below (is_within lba (back - lba)) (is_within back (lba + n - back)) (is_within lba n) b d e
     (λ s. within_both lba n lba (back - lba) back (lba + n - back) s (ends s) (λ l h. (l, omega arith)) (λ l h. (omega arith, omega arith)))
     (cleared_both below (is_within (8 * (front / 8)) (8 * (back / 8 - front / 8))) (is_within lba (front - lba)) (is_within lba (back - lba)) b c d
-    (λ s. within_both lba (back - lba) (8 * (front / 8)) (8 * (back / 8 - front / 8)) lba (front - lba) s (parts s) (pages s) (λ l h. (l, omega arith))) middle first) last)
+    (λ s. within_both lba (back - lba) (8 * (front / 8)) (8 * (back / 8 - front / 8)) lba (front - lba) s (parts s) (pages s) (λ l h. (l, omega arith))) middle first) last
   where
     ends : (s : ℕ) → lba ≤ s → s < lba + n → (((lba ≤ s) × (s < lba + (back - lba))) ⊎ ((back ≤ s) × (s < back + (lba + n - back))))
     ends s from to =
@@ -364,10 +372,3 @@ cleared_three below lba n front back a b c d e low order high whole whole' same 
           | inl aligned ↦ (omega arith, omega arith)
           | inr at_end ↦ absurd (let same : front ≡ back = omega arith in let none : back / 8 - front / 8 ≡ 0 = omega arith in omega arith)
         ]
-
-    after : IsCleared below (is_within lba n) b e → IsCleared below (is_within lba n) a e
-    after is = record {
-      now = λ s. is.now s ∙ ap (cond (is_within lba n s) zero_sector) (same.now s);
-      kept = λ s. is.kept s ∙ same.kept s;
-      stay = λ s out was. is.stay s out (same.stay (s / 8) was);
-    }

@@ -13,6 +13,7 @@ ghost use Rattle.sector_store.specs.Shown.{AreTouched, ChangesAmong, HasWholePag
 use crate::base::{Base, Zeros};
 use crate::sector_store::SectorStore;
 use crate::table::Table;
+use ncq_journal::Journal;
 use std::alloc::{AllocError, Allocator, Global};
 
 /// A disk's sectors as pages of 4,096 bytes in two layers over a base: those that were written since the last keep, and those
@@ -97,8 +98,14 @@ impl<B: Base, A: Allocator + Copy> SectorStore for Pages<B, A> {
         self.write_run(lba, bytes);
     }
 
-    fn zero(&mut self, lba: u64, sectors: u64) -> Result<(), AllocError> {
-        self.zero_run(lba, sectors)
+    fn zero<J: Allocator>(
+        &mut self,
+        lba: u64,
+        sectors: u64,
+        journal: &mut Journal<J>,
+        count: u64,
+    ) -> Result<(), AllocError> {
+        self.zero_run(lba, sectors, journal, count)
     }
 
     fn keep(&mut self) {

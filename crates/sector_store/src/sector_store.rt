@@ -1,11 +1,13 @@
 //! What a disk needs of what holds its sectors.
 
-ghost use Rattle.std.specs.Prelude.{◌≡◌, ℕ, ◌+◌, ◌*◌, ◌/◌, ◌<◌, ◌≤◌, Bool, true, not, ◌&&◌, ◌||◌, List, length, take, drop, OnOk, OnErr};
+ghost use Rattle.std.specs.Prelude.{◌≡◌, ◌⊎◌, ℕ, ◌+◌, ◌*◌, ◌/◌, ◌<◌, ◌≤◌, Bool, true, not, ◌&&◌, ◌||◌, List, length, take, drop, OnOk, OnErr};
 ghost use Rattle.ncq_journal.specs.Image.{IsWrittenOver, IsZeroedOver};
 ghost use Rattle.sector_store.specs.Reserved.{AreReserved, StayReserved};
+ghost use Rattle.sector_store.specs.Room.{MakesRoom};
 ghost use Rattle.sector_store.specs.Zeroed.{StayReservedBut};
 
-use std::alloc::AllocError;
+use ncq_journal::Journal;
+use std::alloc::{AllocError, Allocator};
 
 /// What holds the sectors of a disk, of 512 bytes each, as they are now, and mostly also as they were when they were last kept.
 pub trait SectorStore {
@@ -64,15 +66,24 @@ pub trait SectorStore {
         ensures stay { StayReserved (is_reserved self.old) (is_reserved self.new) }
         ensures starting { starting self.new ≡ starting self.old };
 
-    /// Makes these sectors zeros, and gives the memory back that they no longer need. Of these what was reserved may no longer be.
+    /// Makes these sectors zeros, and gives the memory back that they no longer need. Before the first of them changes, a journal has room for `count` more
+    /// entries. Of these sectors what was reserved may no longer be.
     ///
     /// # Errors
-    /// If there is no memory, which only a store lacks that grows. No sector changes then, and what was reserved is.
-    fn zero(&mut self, lba: u64, sectors: u64) -> Result<(), AllocError>
+    /// If there is no memory for the sectors, which only a store lacks that grows, or for the room. No sector and no room changes then, and what was reserved is.
+    fn zero<J: Allocator>(
+        &mut self,
+        lba: u64,
+        sectors: u64,
+        journal: &mut Journal<J>,
+        count: u64,
+    ) -> Result<(), AllocError>
         requires { 512 * (lba + sectors) ≤ length (image self.old) }
         ensures ok { OnOk result (IsZeroedOver lba sectors (image self.old) (image self.new)) }
         ensures err { OnErr result (image self.new ≡ image self.old) }
-        ensures lacking { OnErr result ((can_grow && grows self.old) ≡ true) }
+        ensures room { OnOk result (MakesRoom count journal.old journal.new) }
+        ensures journal { OnErr result (journal.new ≡ journal.old) }
+        ensures lacking { OnErr result (((can_grow && grows self.old) ≡ true) ⊎ (journal.old.held < length journal.old.past + count)) }
         ensures kind { grows self.new ≡ grows self.old }
         ensures len { length (image self.new) ≡ length (image self.old) }
         ensures stay { StayReservedBut lba sectors (is_reserved self.old) (is_reserved self.new) }

@@ -10,6 +10,7 @@ use crate::base::Buffer;
 use crate::pages::Pages;
 use crate::sector_store::SectorStore;
 use crate::whole::Whole;
+use ncq_journal::Journal;
 use std::alloc::{AllocError, Allocator, Global};
 
 /// What holds a disk's sectors: all of them, or the pages that were written over bytes that never change. Pages are in the process's heap.
@@ -114,10 +115,16 @@ impl<A: Allocator> SectorStore for Sectors<A> {
         }
     }
 
-    fn zero(&mut self, lba: u64, sectors: u64) -> Result<(), AllocError> {
+    fn zero<J: Allocator>(
+        &mut self,
+        lba: u64,
+        sectors: u64,
+        journal: &mut Journal<J>,
+        count: u64,
+    ) -> Result<(), AllocError> {
         match self {
-            Sectors::Whole(store) => store.zero(lba, sectors),
-            Sectors::Pages(store) => store.zero(lba, sectors),
+            Sectors::Whole(store) => store.zero(lba, sectors, journal, count),
+            Sectors::Pages(store) => store.zero(lba, sectors, journal, count),
         }
     }
 

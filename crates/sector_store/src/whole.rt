@@ -4,7 +4,7 @@ ghost use Rattle.std.specs.Prelude.{◌≡◌, ℕ, ◌+◌, ◌*◌, ◌/◌, �
 
 use crate::sector_store::SectorStore;
 use crate::zeroing::zero_sectors;
-use ncq_journal::{read_sectors, write_sectors};
+use ncq_journal::{Journal, read_sectors, write_sectors};
 use std::alloc::{AllocError, Allocator, Global};
 
 /// A disk's sectors in two buffers: as they are now, and as they were when they were last kept. Every sector is always
@@ -74,7 +74,14 @@ impl<A: Allocator> SectorStore for Whole<A> {
         write_sectors(self.image.as_mut_slice(), lba, bytes);
     }
 
-    fn zero(&mut self, lba: u64, sectors: u64) -> Result<(), AllocError> {
+    fn zero<J: Allocator>(
+        &mut self,
+        lba: u64,
+        sectors: u64,
+        journal: &mut Journal<J>,
+        count: u64,
+    ) -> Result<(), AllocError> {
+        journal.reserve(count)?;
         zero_sectors(self.image.as_mut_slice(), lba, sectors);
         Ok(())
     }

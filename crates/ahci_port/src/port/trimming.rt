@@ -49,8 +49,8 @@ impl<A: Allocator, S: SectorStore> Port<A, S> {
         None
     }
 
-    /// Whether no slot is owned.
-    pub(super) fn is_vacant(&self) -> bool
+    /// Whether no slot has a request.
+    pub fn is_vacant(&self) -> bool
         ensures { result ≡ is_vacant self.now }
     {
         !is_any_owned(&self.slots)

@@ -1,7 +1,7 @@
 //! How sectors become zeros (ACS-3, DATA SET MANAGEMENT with TRIM).
 
-ghost use Rattle.std.specs.Prelude.{◌≡◌, ◌≢◌, ◌&&◌, false, IfErr, OnErr, OnOk};
-ghost use Rattle.ahci_port.specs.{Faults.{AnswersOr, lacks_sectors, run_refusal, zero_fault_of, zero_refusal}, Steps.{GrowsRoom, IsZeroed, LacksRoom}};
+ghost use Rattle.std.specs.Prelude.{◌≡◌, ◌&&◌, false, IfErr, OnErr, OnOk};
+ghost use Rattle.ahci_port.specs.{Faults.{AnswersOr, lacks_sectors, run_refusal, zero_fault_of, zero_refusal}, Steps.{IsZeroed, LacksRoom}};
 
 use crate::fault::{PlainFault, ZeroFault};
 use crate::port::{Port, ROOM};
@@ -34,19 +34,18 @@ impl<A: Allocator, S: SectorStore> Port<A, S> {
     ///
     /// # Errors
     /// `Halted` and `QueueBusy` as for `flush`, `SlotOwned` if some slot has a request, `NoSuchSector` if there are no sectors or not all of them
-    /// are the disk's; else `OutOfMemory` if room for the entries that follow, or memory that the store needs, could not be allocated.
+    /// are the disk's; else `OutOfMemory` if room for the entries that follow, or memory that the store needs, could not be allocated. Nothing has changed.
     pub fn zero(&mut self, lba: u64, sectors: u32) -> Result<(), ZeroFault>
         ensures zeroed { OnOk result (IsZeroed lba sectors self.old self.new) }
         ensures fault { AnswersOr result (zero_refusal self.old lba sectors) ZeroFault.OutOfMemory }
         ensures lacking { IfErr result (λ e. e ≡ ZeroFault.OutOfMemory → (S.can_grow && self.old.grows) ≡ false → LacksRoom self.old) }
-        ensures refused { IfErr result (λ e. e ≢ ZeroFault.OutOfMemory → self.new ≡ self.old) }
-        ensures err { OnErr result (GrowsRoom self.old self.new) }
+        ensures err { OnErr result (self.new ≡ self.old) }
     {
         if let Some(fault) = self.zero_fault(lba, sectors) {
             return Err(fault);
         }
-        self.journal.reserve(ROOM)?;
-        self.disk.zero(lba, u64::from(sectors))?;
+        self.disk
+            .zero(lba, u64::from(sectors), &mut self.journal, ROOM)?;
         self.journal.push_reserved(Event::Zero { lba, sectors });
         Ok(())
     }

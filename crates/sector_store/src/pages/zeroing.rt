@@ -5,11 +5,13 @@ ghost use Rattle.sector_store.specs.Blank.{AreClearable, AreMarkable, IsCleared}
 ghost use Rattle.sector_store.specs.Slots.{slot_at, table_span};
 ghost use Rattle.sector_store.specs.Shown.{ShowSame, is_touched, is_writable, sector_kept};
 ghost use Rattle.ncq_journal.specs.Image.{is_within};
+ghost use Rattle.sector_store.specs.Room.{MakesRoom};
 ghost use Rattle.sector_store.specs.Zeroed.{StayReservedBut};
 
 use crate::base::Base;
 use crate::changing;
 use crate::pages::Pages;
+use ncq_journal::Journal;
 use std::alloc::{AllocError, Allocator};
 
 /// What a sector has that is zeros.
@@ -99,14 +101,45 @@ impl<B: Base, A: Allocator + Copy> Pages<B, A> {
         Ok(())
     }
 
-    /// Makes these sectors zeros. All memory is taken before the first changes.
+    /// Takes the memory with which sectors can become zeros: those before the whole pages, the whole pages, and those behind them.
     ///
     /// # Errors
     /// If there is no memory.
-    pub(super) fn zero_run(&mut self, lba: u64, sectors: u64) -> Result<(), AllocError>
+    fn prepare_run(&mut self, lba: u64, sectors: u64, front: u64, back: u64) -> Result<(), AllocError>
+        requires inside { lba + sectors ≤ self.old.sectors }
+        requires from { lba ≤ front }
+        requires order { front ≤ back }
+        requires to { back ≤ lba + sectors }
+        requires head { front ≤ 8 * (lba / 8) + 8 }
+        requires tail { lba + sectors ≤ 8 * (back / 8) + 8 }
+        ensures head { OnOk result (AreClearable (B.sector self.old.base) (is_within lba (front - lba)) (slot_at self.new.table)) }
+        ensures tail { OnOk result (AreClearable (B.sector self.old.base) (is_within back (lba + sectors - back)) (slot_at self.new.table)) }
+        ensures pages { OnOk result (AreMarkable (B.sector self.old.base) (front / 8) (back / 8) (slot_at self.new.table)) }
+        ensures same { ShowSame (B.sector self.old.base) (slot_at self.old.table) (slot_at self.new.table) }
+        ensures base { self.new.base ≡ self.old.base }
+        ensures sectors { self.new.sectors ≡ self.old.sectors }
+    {
+        self.prepare_part(lba, front - lba)?;
+        self.prepare_part(back, lba + sectors - back)?;
+        self.prepare_pages(front / 8, back / 8)
+    }
+
+    /// Makes these sectors zeros. All memory is taken before the first changes, that for the journal's room among it.
+    ///
+    /// # Errors
+    /// If there is no memory.
+    pub(super) fn zero_run<J: Allocator>(
+        &mut self,
+        lba: u64,
+        sectors: u64,
+        journal: &mut Journal<J>,
+        count: u64,
+    ) -> Result<(), AllocError>
         requires { lba + sectors ≤ self.old.sectors }
         ensures ok { OnOk result (IsCleared (B.sector self.old.base) (is_within lba sectors) (slot_at self.old.table) (slot_at self.new.table)) }
         ensures err { OnErr result (ShowSame (B.sector self.old.base) (slot_at self.old.table) (slot_at self.new.table)) }
+        ensures room { OnOk result (MakesRoom count journal.old journal.new) }
+        ensures journal { OnErr result (journal.new ≡ journal.old) }
         ensures kept { (s : ℕ) → sector_kept (B.sector self.old.base) (slot_at self.new.table) s ≡ sector_kept (B.sector self.old.base) (slot_at self.old.table) s }
         ensures stay { StayReservedBut lba sectors (is_writable (slot_at self.old.table)) (is_writable (slot_at self.new.table)) }
         ensures base { self.new.base ≡ self.old.base }
@@ -115,12 +148,9 @@ impl<B: Base, A: Allocator + Copy> Pages<B, A> {
         let end = lba + sectors;
         let front = front_of(lba, end);
         let back = back_of(front, end);
-        self.prepare_part(lba, front - lba)?;
-        self.prepare_part(back, end - back)?;
-        self.prepare_pages(front / 8, back / 8)?;
-        self.zero_pages(front / 8, back / 8);
-        self.zero_part(lba, front - lba);
-        self.zero_part(back, end - back);
+        self.prepare_run(lba, sectors, front, back)?;
+        journal.reserve(count)?;
+        self.zero_prepared(lba, sectors, front, back);
         Ok(())
     }
 }
@@ -179,5 +209,25 @@ impl<B: Base, A: Allocator> Pages<B, A> {
         for number in first..end {
             self.zero_page(number as u32);
         }
+    }
+
+    /// Makes sectors zeros: those before the whole pages, the whole pages, and those behind them.
+    fn zero_prepared(&mut self, lba: u64, sectors: u64, front: u64, back: u64)
+        requires inside { lba + sectors ≤ self.old.sectors }
+        requires from { lba ≤ front }
+        requires order { front ≤ back }
+        requires to { back ≤ lba + sectors }
+        requires first { (8 * (front / 8) ≡ front) ⊎ (front ≡ lba + sectors) }
+        requires last { (8 * (back / 8) ≡ back) ⊎ (back ≡ front) }
+        requires head { AreClearable (B.sector self.old.base) (is_within lba (front - lba)) (slot_at self.old.table) }
+        requires tail { AreClearable (B.sector self.old.base) (is_within back (lba + sectors - back)) (slot_at self.old.table) }
+        requires pages { AreMarkable (B.sector self.old.base) (front / 8) (back / 8) (slot_at self.old.table) }
+        ensures cleared { IsCleared (B.sector self.old.base) (is_within lba sectors) (slot_at self.old.table) (slot_at self.new.table) }
+        ensures base { self.new.base ≡ self.old.base }
+        ensures sectors { self.new.sectors ≡ self.old.sectors }
+    {
+        self.zero_pages(front / 8, back / 8);
+        self.zero_part(lba, front - lba);
+        self.zero_part(back, lba + sectors - back);
     }
 }

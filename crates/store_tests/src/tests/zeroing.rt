@@ -3,6 +3,7 @@
 ghost use Rattle.std.specs.Prelude.{◌≡◌, length};
 
 use super::{ACROSS, Heap, SECTORS};
+use ncq_journal::Journal;
 use refusing_allocator::{Refusals, Refusing};
 use sector_store::{Buffer, Pages, SectorStore, Zeros};
 use std::process::Abort;
@@ -14,8 +15,8 @@ const COUNT: u64 = 512;
 /// The sectors of a small disk over a buffer: five pages of a leaf.
 const SMALL: usize = 40;
 
-/// The requests for memory of `zero(3, 34)` there: a branch, a leaf, the pages of both ends, and twice a list of five numbers.
-const REQUESTS: u64 = 6;
+/// The requests for memory of `zero(3, 34)` there: a branch, a leaf, the pages of both ends, twice a list of five numbers, and the journal's room.
+const REQUESTS: u64 = 7;
 
 /// Reserves and writes the first sectors.
 fn fills<S: SectorStore>(rt: &impl Abort, store: &mut S, bytes: &[u8]) -> Result<(), Fail>
@@ -54,7 +55,7 @@ fn blocks_of<S: SectorStore>(
     assert!(rt; lba <= count && sectors <= count - lba);
     let before = heap.out();
     heap.refuse(Refusals::From(0));
-    store.zero(lba, sectors)?;
+    store.zero(lba, sectors, &mut Journal::new(heap), 0)?;
     assert!(rt; heap.requests() == 0);
     heap.refuse(Refusals::None);
     let after = heap.out();
@@ -126,18 +127,19 @@ fn zeros_over_a_buffer_take_no_page_but_at_their_ends(rt: HostRuntime) -> Result
     let below = [0xa5; SMALL * 512];
     for growth in 0..REQUESTS {
         let mut disk = Pages::new(&heap, Buffer::new(below.as_slice()), SMALL as u64)?;
+        let mut journal = Journal::new(&heap);
         assert!(rt; disk.sectors() == SMALL as u64);
         heap.refuse(Refusals::Only(growth));
-        assert!(rt; disk.zero(3, 34).is_err());
+        assert!(rt; disk.zero(3, 34, &mut journal, 1).is_err());
         shows(&rt, &disk, SMALL as u64, 0, 0);
         heap.refuse(Refusals::None);
-        assert!(rt; disk.zero(3, 34).is_ok());
+        assert!(rt; disk.zero(3, 34, &mut journal, 1).is_ok());
         shows(&rt, &disk, SMALL as u64, 3, 37);
     }
     let mut disk = Pages::new(&heap, Buffer::new(below.as_slice()), SMALL as u64)?;
     assert!(rt; disk.sectors() == SMALL as u64);
     heap.refuse(Refusals::Only(REQUESTS));
-    assert!(rt; disk.zero(3, 34).is_ok());
+    assert!(rt; disk.zero(3, 34, &mut Journal::new(&heap), 1).is_ok());
     assert!(rt; heap.requests() == REQUESTS);
     Ok(())
 }
