@@ -21,13 +21,14 @@ use Rattle.hba_command.specs.declared.reply.Reply.TheVariants.{Changed}
 use Rattle.hba_command.specs.declared.store.Store.{Store}
 use Rattle.hba_command.specs.declared.store.Store.TheVariants.{Buffer, Log, Trim}
 
--- a disk that has never been used, without a volatile write cache; look-ahead and SMART operations are enabled, Advanced Power Management, READ
+-- a disk that has never been used, without a volatile write cache, to which a trim is advice; look-ahead and SMART operations are enabled, Advanced Power Management, READ
 -- and WRITE MULTIPLE are not, Ultra DMA mode 5 is selected, and a software reset leaves the settings (profile)
 unfoldable pub new_device : Device
 new_device = record {
   identity = usual_identity;
   has_cache = false;
   cache = false;
+  trim_zeros = false;
   look_ahead = true;
   power_level = 0;
   reverts = false;
@@ -44,6 +45,10 @@ new_device = record {
 -- a disk with a volatile write cache has it enabled (profile)
 abbrev pub with_cache : Bool → Device → Device
 with_cache has d = record d { has_cache = has; cache = has }
+
+-- trimmed sectors read as zeros, or a trim is advice
+abbrev pub with_trim_zeros : Bool → Device → Device
+with_trim_zeros trim_zeros d = record d { trim_zeros = trim_zeros }
 
 abbrev pub named : Identity → Device → Device
 named identity d = record d { identity = identity }
@@ -148,7 +153,7 @@ allows_log d pages = d.smart || not (is_of_smart pages.addressing)
 abbrev pub buffered : List ℕ → Device → Device
 buffered bytes d = if length bytes == 512 then record d { buffer = bytes } else d
 
--- a trim is advice, and leaves the sectors as they are (profile); the logs of the host's aren't among these settings
+-- ranges that are trimmed and the logs of the host's aren't among these settings
 abbrev pub after_store : Store → List ℕ → Device → Device
 after_store Buffer bytes d = buffered bytes d
 after_store (Trim blocks) bytes d = d

@@ -23,9 +23,12 @@ capacity_page s = with_word 11 0x8000 (with_word 7 0x8000 (with_word 5 (s / 2 ^ 
 -- page 03h, supported capabilities: bytes 8 to 15 have the bits of words 119, 84, 83, 82 and 69 of IDENTIFY DEVICE. Bits 15:0: WRITE UNCORRECTABLE EXT (1), READ LOG DMA EXT (2), SMART error
 -- logging (7), SMART self-test (8), general purpose logging (11), WRITE DMA FUA EXT and WRITE MULTIPLE FUA EXT (12); bits 31:16: Advanced Power
 -- Management (16), 48-bit addresses (20), FLUSH CACHE EXT (22), SMART (23), the volatile write cache (24), read look-ahead (25), WRITE BUFFER (27), READ BUFFER
--- (28); bits 47:32: WRITE BUFFER DMA (35), READ BUFFER DMA (36)
+-- (28), zeros after a trim (31); bits 47:32: WRITE BUFFER DMA (35), READ BUFFER DMA (36), deterministic reads after a trim (39)
 abbrev pub capabilities : Device → ℕ
-capabilities d = 0x1AD1 + (if d.has_cache then 0x0100 else 0)
+capabilities d = 0x1AD1 + (if d.has_cache then 0x0100 else 0) + (if d.trim_zeros then 0x8000 else 0)
+
+abbrev pub further_capabilities : Device → ℕ
+further_capabilities d = 0x0018 + (if d.trim_zeros then 0x0080 else 0)
 
 -- bytes 56 to 71: the world wide name in bits 63:0, and bit 127 says that it is valid
 abbrev pub with_wide_name : (name : ℕ) → List ℕ → List ℕ
@@ -39,7 +42,7 @@ with_device i page =
 
 abbrev pub capabilities_page : Device → List ℕ
 capabilities_page d =
-    with_device d.identity (with_word 7 0x8000 (with_word 6 0x0018 (with_word 5 (capabilities d) (with_word 4 0x1986 (headed 0x03)))))
+    with_device d.identity (with_word 7 0x8000 (with_word 6 (further_capabilities d) (with_word 5 (capabilities d) (with_word 4 0x1986 (headed 0x03)))))
 
 -- page 04h, current settings: in bytes 8 to 15 Advanced Power Management (bit 4), SMART (8), read look-ahead (9), reverting to defaults (13) and the volatile
 -- write cache (15) as they are enabled

@@ -41,10 +41,14 @@ abbrev pub with_enabled : Device → List ℕ → List ℕ
 with_enabled d page =
     with_word 120 0x400C (with_word 91 d.power_level (with_word 87 0x4163 (with_word 86 (further_enabled d) (with_word 85 (enabled d) page))))
 
--- a page with further commands and logs: READ BUFFER DMA (word 69, bit 11) and WRITE BUFFER DMA (10), the SATA Phy Event Counters log (word 76,
--- bit 10) beside NCQ, Gen2 and Gen1, DATA SET MANAGEMENT with at most eight blocks (word 105) and TRIM (word 169, bit 0)
-abbrev pub with_commands : List ℕ → List ℕ
-with_commands page = with_word 169 0x0001 (with_word 105 0x0008 (with_word 76 0x0506 (with_word 69 0x0C00 page)))
+-- word 69: READ BUFFER DMA (bit 11), WRITE BUFFER DMA (10), and, if trimmed sectors read as zeros, deterministic reads (14) and zeros (5) after a trim
+abbrev pub further_supported : Device → ℕ
+further_supported d = 0x0C00 + (if d.trim_zeros then 0x4020 else 0)
+
+-- a page with further commands and logs: beside word 69 the SATA Phy Event Counters log (word 76, bit 10) and NCQ, Gen2 and Gen1, DATA SET MANAGEMENT
+-- with at most eight blocks (word 105) and TRIM (word 169, bit 0)
+abbrev pub with_commands : Device → List ℕ → List ℕ
+with_commands d page = with_word 169 0x0001 (with_word 105 0x0008 (with_word 76 0x0506 (with_word 69 (further_supported d) page)))
 
 -- a page with capabilities: in word 47 the most sectors that a block of READ and WRITE MULTIPLE may have, and 80h in its high byte; word 49, DMA (bit 8), LBA
 -- (9), and IORDY (11), which may be disabled (10) and goes with PIO modes 3 and 4; bit 14 is 1 in words 48 and 50; in word 59 the blocks that are set
@@ -75,7 +79,7 @@ with_name name page =
 abbrev pub controller_page : ℕ → ℕ → Device → List ℕ
 controller_page s d device =
     with_name (wide_name device.identity)
-    (with_commands (with_enabled device (with_supported device (with_modes device
+    (with_commands device (with_enabled device (with_supported device (with_modes device
     (with_capabilities device (with_identity device.identity (identify_page s d)))))))
 
 -- a directory of logs with those of the host's, 80h to 9Fh, of 16 pages each

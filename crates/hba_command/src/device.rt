@@ -2,7 +2,7 @@
 
 ghost use Rattle.std.specs.Prelude.{◌≡◌, replicate};
 ghost use Rattle.hba_command.specs.Device.{after_change, after_ending, after_error_log, after_page, after_signature, after_srst, after_store, allows, allows_log, allows_page, buffered};
-ghost use Rattle.hba_command.specs.Device.{changed, collided, device_after_reply, is_of_smart, more_tested, named, new_device, power_cycled, reset_device, tested, with_cache};
+ghost use Rattle.hba_command.specs.Device.{changed, collided, device_after_reply, is_of_smart, more_tested, named, new_device, power_cycled, reset_device, tested, with_cache, with_trim_zeros};
 ghost use Rattle.hba_command.specs.Words.{with_word};
 
 use crate::addressing::Addressing;
@@ -26,6 +26,8 @@ pub struct Device {
     pub has_cache: bool,
     /// Whether that is enabled.
     pub cache: bool,
+    /// Whether trimmed sectors read as zeros; else a trim is advice, and changes none.
+    pub trim_zeros: bool,
     /// Whether read look-ahead is enabled.
     pub look_ahead: bool,
     /// The level of Advanced Power Management, 0 if it is disabled.
@@ -82,7 +84,7 @@ fn more_tested(log: &[u8; 512], test: u8) -> [u8; 512]
 }
 
 impl Device {
-    /// A disk that has never been used, without a volatile write cache.
+    /// A disk that has never been used, without a volatile write cache, to which a trim is advice.
     #[tactic(auto, unfolding(crate::specs::Device::new_device))]
     pub fn new() -> Self
         ensures { result ≡ new_device }
@@ -91,6 +93,7 @@ impl Device {
             identity: Identity::new(),
             has_cache: false,
             cache: false,
+            trim_zeros: false,
             look_ahead: true,
             power_level: 0,
             reverts: false,
@@ -113,6 +116,16 @@ pub fn with_cache(device: &Device, has_cache: bool) -> Device
     Device {
         has_cache,
         cache: has_cache,
+        ..*device
+    }
+}
+
+/// The disk whose trimmed sectors read as zeros, or one to which a trim is advice.
+pub fn with_trim_zeros(device: &Device, trim_zeros: bool) -> Device
+    ensures { result ≡ with_trim_zeros trim_zeros device.now }
+{
+    Device {
+        trim_zeros,
         ..*device
     }
 }

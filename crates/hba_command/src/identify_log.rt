@@ -1,7 +1,7 @@
 //! The pages of log 30h (ACS-3, "IDENTIFY DEVICE data log").
 
 ghost use Rattle.std.specs.Prelude.{◌≡◌, ◌≤◌, ◌<◌, ◌/◌, ◌%◌, ◌^◌};
-ghost use Rattle.hba_command.specs.IdentifyLog.{capabilities, capabilities_page, capacity_page, headed, identify_log_page, security_page, settings, settings_page, strings_page, supported_pages, with_device, with_wide_name};
+ghost use Rattle.hba_command.specs.IdentifyLog.{capabilities, capabilities_page, capacity_page, further_capabilities, headed, identify_log_page, security_page, settings, settings_page, strings_page, supported_pages, with_device, with_wide_name};
 ghost use Rattle.hba_command.specs.WideName.{wide_name};
 
 use crate::device::Device;
@@ -46,11 +46,20 @@ fn capacity_page(sectors: u32) -> [u8; 512]
     page
 }
 
-/// Bits 31:16 of the supported capabilities, of which the volatile write cache is one if the disk has it.
+/// Bits 31:16 of the supported capabilities, of which the volatile write cache is one if the disk has it, and zeros after a trim are one if it makes them.
 fn capabilities(device: &Device) -> u16
     ensures { result ≡ capabilities device.now }
 {
-    0x1AD1 + if device.has_cache { 0x0100 } else { 0 }
+    let cache = if device.has_cache { 0x0100 } else { 0 };
+    let zeros = if device.trim_zeros { 0x8000 } else { 0 };
+    0x1AD1 + cache + zeros
+}
+
+/// Bits 47:32, of which deterministic reads after a trim are one then.
+fn further_capabilities(device: &Device) -> u16
+    ensures { result ≡ further_capabilities device.now }
+{
+    0x0018 + if device.trim_zeros { 0x0080 } else { 0 }
 }
 
 /// Puts the world wide name into page 03h.
@@ -83,7 +92,7 @@ fn capabilities_page(device: &Device) -> [u8; 512]
     let mut page = headed(0x03);
     put_word(&mut page, 4, 0x1986);
     put_word(&mut page, 5, capabilities(device));
-    put_word(&mut page, 6, 0x0018);
+    put_word(&mut page, 6, further_capabilities(device));
     put_word(&mut page, 7, 0x8000);
     put_device(&mut page, &device.identity);
     page

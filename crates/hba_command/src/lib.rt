@@ -44,7 +44,7 @@ pub use change::Change;
 pub use device::{
     Device, after_ending, after_error_log, after_page, after_signature, after_srst, after_store,
     allows, allows_log, allows_page, device_after_reply, named, power_cycled, reset_device,
-    with_cache,
+    with_cache, with_trim_zeros,
 };
 pub use disk_page::DiskPage;
 pub use disk_pages::ready_page;
@@ -70,5 +70,5 @@ pub use span::Span;
 pub use store::{Store, blocks_of, leaves_disk};
 pub use task::Task;
 pub use tasks::task_of;
-pub use trim_range::{TrimRange, range_at};
+pub use trim_range::{TrimRange, first_range, pass_first};
 pub use uncorrectable::Uncorrectable;

@@ -2,7 +2,7 @@
 
 ghost use Rattle.std.specs.Prelude.{◌≡◌, ◌≤◌};
 ghost use Rattle.hba_command.specs.MultipleMode.{multiple_word};
-ghost use Rattle.hba_command.specs.Pages.{controller_page, directory_page, enabled, further_enabled, multiword_word, not_queued_page, supported, ultra_word, with_capabilities, with_commands, with_cycle_times, with_enabled, with_host_logs, with_identity, with_modes, with_name, with_supported};
+ghost use Rattle.hba_command.specs.Pages.{controller_page, directory_page, enabled, further_enabled, further_supported, multiword_word, not_queued_page, supported, ultra_word, with_capabilities, with_commands, with_cycle_times, with_enabled, with_host_logs, with_identity, with_modes, with_name, with_supported};
 ghost use Rattle.hba_command.specs.WideName.{wide_name};
 
 use crate::device::Device;
@@ -149,11 +149,18 @@ fn put_enabled(page: &mut [u8; 512], device: &Device)
     put_word(page, 120, 0x400C);
 }
 
-/// Puts further commands and logs that are supported into a page.
-fn put_commands(page: &mut [u8; 512])
-    ensures { page.new ≡ with_commands page.old }
+/// Word 69: further commands that are supported, and what reads of trimmed sectors are.
+fn further_supported(device: &Device) -> u16
+    ensures { result ≡ further_supported device.now }
 {
-    put_word(page, 69, 0x0C00); // READ BUFFER DMA and WRITE BUFFER DMA
+    0x0C00 + if device.trim_zeros { 0x4020 } else { 0 }
+}
+
+/// Puts further commands and logs that are supported into a page.
+fn put_commands(page: &mut [u8; 512], device: &Device)
+    ensures { page.new ≡ with_commands device.now page.old }
+{
+    put_word(page, 69, further_supported(device));
     put_word(page, 76, 0x0506); // NCQ, Gen2, Gen1, and the SATA Phy Event Counters log
     put_word(page, 105, 0x0008); // DATA SET MANAGEMENT: at most eight blocks
     put_word(page, 169, 0x0001); // and its TRIM
@@ -172,7 +179,7 @@ pub fn controller_page(sectors: u32, depth: u32, device: &Device) -> [u8; 512]
     put_modes(&mut page, device);
     put_supported(&mut page, device);
     put_enabled(&mut page, device);
-    put_commands(&mut page);
+    put_commands(&mut page, device);
     put_name(&mut page, &device.identity);
     page
 }

@@ -1,7 +1,7 @@
 //! The sectors that DATA SET MANAGEMENT with TRIM names (ACS-3, "LBA Range Entry").
 
 ghost use Rattle.std.specs.Prelude.{◌≡◌, ◌<◌, ◌≤◌, ◌/◌, ◌^◌, length, IfSome};
-ghost use Rattle.hba_command.specs.TrimRange.{IsOnDisk, range_at, range_of};
+ghost use Rattle.hba_command.specs.TrimRange.{IsOnDisk, first_entry, first_passed, first_range, range_at, range_of};
 
 use crate::store::entry_at;
 
@@ -28,11 +28,38 @@ fn range_of(entry: u64) -> Option<TrimRange>
 }
 
 /// The sectors of an entry of the data by its number, of which there is one for eight bytes; nothing if it names none.
-pub fn range_at(bytes: &[u8], index: usize) -> Option<TrimRange>
+fn range_at(bytes: &[u8], index: usize) -> Option<TrimRange>
     requires { index < length bytes.now / 8 }
     ensures value { result ≡ range_at bytes.now index }
     ensures some { IfSome result (λ range. (range.lba < 2 ^ 48) × (1 ≤ range.sectors) × (range.sectors ≤ 65535)) }
     ensures on_disk { IsOnDisk bytes.now result }
 {
     range_of(entry_at(bytes, index))
+}
+
+/// The number of the first entry that names sectors.
+fn first_entry(bytes: &[u8]) -> Option<usize>
+    ensures value { result ≡ first_entry bytes.now }
+    ensures some { IfSome result (λ index. index < length bytes.now / 8) }
+{
+    (0..bytes.len() / 8).find(|index| range_at(bytes, *index).is_some())
+}
+
+/// The sectors of the first entry that names any.
+pub fn first_range(bytes: &[u8]) -> Option<TrimRange>
+    ensures value { result ≡ first_range bytes.now }
+    ensures some { IfSome result (λ range. (range.lba < 2 ^ 48) × (1 ≤ range.sectors) × (range.sectors ≤ 65535)) }
+    ensures on_disk { IsOnDisk bytes.now result }
+{
+    range_at(bytes, first_entry(bytes)?)
+}
+
+/// Sets the count of that entry to 0, so that it is passed over from then on.
+pub fn pass_first(bytes: &mut [u8])
+    ensures { bytes.new ≡ first_passed bytes.old }
+{
+    if let Some(index) = first_entry(bytes) {
+        bytes[8 * index + 6] = 0;
+        bytes[8 * index + 7] = 0;
+    }
 }

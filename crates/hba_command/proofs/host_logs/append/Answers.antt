@@ -1,7 +1,7 @@
 -- One page more.
 use Rattle.std.proofs.Common.{◌∙◌, [], ◌∷◌, ◌++◌, ap, sym}
 use Rattle.std.proofs.lemmas.List.{append_assoc}
-use Rattle.hba_command.specs.HostLogs.{page_of, pages_of}
+use Rattle.hba_command.specs.HostLogs.{pages_of}
 use Rattle.hba_command.proofs.HostLogLemmas.{one_page_written}
 use Rattle.hba_command.proofs.host_logs.append.Goals as goal
 
