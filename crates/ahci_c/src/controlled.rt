@@ -5,7 +5,7 @@ ghost use Rattle.std.specs.Prelude.{◌≡◌, length, ⊤};
 ghost use Rattle.ncq_journal.specs.{Numbering.{entry_numbered}, Sector.{sector}};
 ghost use Rattle.ahci_ffi.specs.{Refusals.{copy_refusal}, Seen.{AnswersBytes, AnswersEntry, AnswersTouched, IsState, written_by}, Told.{Told}};
 ghost use Rattle.hba_ffi.specs.{
-  Calls.{AnswersEnd, AnswersFail, AnswersRefuse, AnswersSign, AnswersStep, AnswersTrim},
+  Calls.{AnswersEnd, AnswersFail, AnswersRefuse, AnswersSign, AnswersStep, AnswersTrim, AnswersTrimRange},
   Looking.{AnswersLeft},
   Over.{Changes, Reads},
   PlaceView.{view_of},
@@ -27,6 +27,25 @@ pub extern "C" fn ahci_hba_step(
         (λ answer old new. AnswersStep slot answer old new entries.old entries.new) }
 {
     over!(hba, heap, |held| hba_ffi::step(&mut held, slot, entries))
+}
+
+/// The sectors that the next step of a slot's command makes zeros.
+#[unsafe(no_mangle)]
+pub extern "C" fn ahci_hba_trim_range(
+    hba: &mut HbaPlace,
+    heap: Global,
+    slot: u32,
+    lba: &mut u64,
+    sectors: &mut u32,
+) -> u32
+    ensures { Reads result (view_of hba.old) (view_of hba.new) ((lba.new ≡ lba.old) × (sectors.new ≡ sectors.old))
+        (λ answer h. AnswersTrimRange slot answer h lba.old lba.new sectors.old sectors.new) }
+{
+    over!(
+        hba,
+        heap,
+        |held| hba_ffi::trim_range(&held, slot, lba, sectors)
+    )
 }
 
 /// The device fails a queued command that it has taken.

@@ -1,9 +1,9 @@
-//! The controller for C: what names its disk, and whether that has a volatile write cache.
+//! The controller for C: what names its disk, and whether that has a volatile write cache and trimmed sectors that read as zeros.
 #![tactic(auto, using(hba_ffi::proofs::OverLemmas::none_changes, hba_ffi::proofs::OverLemmas::none_reads, hba_ffi::proofs::OverLemmas::some_changes, hba_ffi::proofs::OverLemmas::some_reads))]
 
 ghost use Rattle.std.specs.Prelude.{◌≡◌, ◌==◌, not, ⊤};
 ghost use Rattle.ahci_ffi.specs.Flat.{number_if};
-ghost use Rattle.ahci_hba.specs.Keeping.{cached};
+ghost use Rattle.ahci_hba.specs.Keeping.{cached, trim_turned};
 ghost use Rattle.hba_ffi.specs.{Naming.{AnswersNaming, is_identity}, Over.{Changes, Reads}, PlaceView.{view_of}};
 
 use ahci_ffi::Status;
@@ -33,6 +33,19 @@ pub extern "C" fn ahci_hba_write_cache(hba: &mut HbaPlace, heap: Global, support
         hba,
         heap,
         |held| hba_ffi::write_cache(&mut held, supported != 0)
+    )
+}
+
+/// Trimmed sectors read as zeros from now on, unless `supported` is 0.
+#[unsafe(no_mangle)]
+pub extern "C" fn ahci_hba_trim_zeros(hba: &mut HbaPlace, heap: Global, supported: u32) -> u32
+    ensures { Changes result (view_of hba.old) (view_of hba.new) ⊤
+        (λ answer old new. (answer ≡ Status.Done) × (new ≡ trim_turned (not (supported == 0)) old)) }
+{
+    over!(
+        hba,
+        heap,
+        |held| hba_ffi::trim_zeros(&mut held, supported != 0)
     )
 }
 

@@ -15,4 +15,5 @@ pub mod SendingLemmas
 pub mod ServeLemmas
 pub mod SteppingLemmas
 pub mod TransitionLemmas
+pub mod ZeroingLemmas
 pub mod StepTransitionLemmas

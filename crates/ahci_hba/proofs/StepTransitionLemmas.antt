@@ -27,6 +27,7 @@ use Rattle.hba_command.specs.declared.reply.Reply.{Reply as Replies}
 use Rattle.hba_command.specs.declared.reply.Reply.TheVariants as reply
 use Rattle.hba_command.specs.declared.store.Store.{Store as Stores}
 use Rattle.hba_command.specs.declared.store.Store.TheVariants as store
+use Rattle.hba_command.specs.declared.trim_range.TrimRange.{TrimRange}
 use Rattle.hba_command.specs.Uncorrectable.{marked_with}
 use Rattle.hba_memory.specs.Posting.{PostingView}
 use Rattle.hba_memory.specs.Processing.{has_processed}
@@ -56,6 +57,7 @@ use Rattle.ahci_hba.specs.Recovering.{Recovers, error_log_in, error_page}
 use Rattle.ahci_hba.specs.Resetting.{control_in, controlled, released, sent_by, signature, signing, signing_for}
 use Rattle.ahci_hba.specs.Stepping.{IsTaken, ServesTo, marked_at, stop_for}
 use Rattle.ahci_hba.specs.Storing.{content_in, kept_at_once, log_stored, log_taken_by, store_fis, stored, taken_by}
+use Rattle.ahci_hba.specs.Zeroing.{StoresBy, zeroed_next}
 use Rattle.ahci_hba.specs.Transfer.{TransferView, fits, has_interrupt, is_last, moved_to, next_block, next_list, next_processes, next_sectors}
 use Rattle.ahci_hba.specs.Transitions.{Takes, SelectCmd, SrstCleared, SrstSet}
 use Rattle.ahci_hba.specs.declared.ending.Ending.{Ending}
@@ -250,6 +252,13 @@ stores h slot (store.Log pages) p list bytes = stores_log h slot pages p list by
 stores h slot store.Buffer p list bytes = stores_at_once h slot store.Buffer p list bytes
 stores h slot (store.Trim blocks) p list bytes = stores_at_once h slot (store.Trim blocks) p list bytes
 
+-- sectors that become zeros move none
+stores_by : (range : Option TrimRange) (slot : ℕ) (s : Stores) (p : Protocol) (list : List PrdEntry) (old new : HbaView) → StoresBy range slot s p list old new
+    → Takes old.registers new.registers
+stores_by (Some range) slot s p list old new h = made_by old new _ h.rest (none old.registers)
+stores_by None slot s p list old new h =
+    let bytes = content_in (command_at old slot) in made_by old new (stored old slot s p list bytes) h (stores old slot s p list bytes)
+
 -- a mark moves no register
 marks_none : (r : Replies) (old new : HbaView) → Takes old.registers new.registers → Takes old.registers (marked_by r new).registers
 marks_none (reply.Marked span) old new t = by (can_mark new span)
@@ -277,8 +286,7 @@ performs slot (Page page.Identify p) list old new h =
     made_by old new (paged (record old { port = h.port }) slot ByPio list page) h.answered (gives_page (record old { port = h.port }) slot ByPio list page)
 performs slot (Page (page.Log log) p) list old new h = made_by old new (log_given old slot p list log) h (gives_log old slot p list log)
 performs slot (Page (page.Disk ready) p) list old new h = made_by old new (disk_page_given old slot p list ready) h (gives_disk_page old slot p list ready)
-performs slot (Store s p) list old new h =
-    let bytes = content_in (command_at old slot) in made_by old new (stored old slot s p list bytes) h (stores old slot s p list bytes)
+performs slot (Store s p) list old new h = stores_by (zeroed_next old s (content_in (command_at old slot))) slot s p list old new h
 performs slot (Flush a) list old new h =
     made_by old new (awake (concluded (record old { port = h.port }) slot done)) h.answered (concludes (record old { port = h.port }) slot done)
 performs slot (Reply r) list old new h =

@@ -40,7 +40,7 @@ use Rattle.ahci_hba.specs.Keeping.{changed_by, device_ended, keeping}
 use Rattle.ahci_hba.specs.Marking.{marked_for, marked_on, marking}
 use Rattle.ahci_hba.specs.Powering.{awake, turned}
 use Rattle.ahci_hba.specs.Queueing.{command_at, has_no_blocks, has_queued, is_alone, is_failed, is_on, list_in, task_in}
-use Rattle.ahci_hba.specs.Storing.{content_in, stored, writes_log}
+use Rattle.ahci_hba.specs.Zeroing.{StoreMayLack, Stores}
 
 -- the signature of a disk stands in LBA and count (Serial ATA, "Signature")
 abbrev pub signed : ℕ → ℕ → D2hFields
@@ -185,7 +185,7 @@ Performs slot (Sectors write span p) list old new = new ≡ awake (stopped old s
 Performs slot (Page page.Identify p) list old new = Identifies slot list old new
 Performs slot (Page (page.Log log) p) list old new = new ≡ log_given old slot p list log
 Performs slot (Page (page.Disk ready) p) list old new = new ≡ disk_page_given old slot p list ready
-Performs slot (Store s p) list old new = new ≡ stored old slot s p list (content_in (command_at old slot))
+Performs slot (Store s p) list old new = Stores slot s p list old new
 Performs slot (Flush a) list old new = Flushes slot old new
 Performs slot (Replies r) list old new = new ≡ replied old slot r
 Performs slot (Control reset) list old new = ⊥
@@ -200,10 +200,11 @@ Executes false slot a list old new = Performs slot a list old new
 abbrev pub ExecutesAt : ℕ → Action → List PrdEntry → HbaView → HbaView → Type 0
 ExecutesAt slot a list old new = Executes (is_aborted old a) slot a list old new
 
--- an allocation can be refused: for a page, for a log that is written, for the journal that a flush stands in, and for the sectors of a read that move
+-- an allocation can be refused: for a page, for what data change that are no sectors, for the journal that a flush stands in, and for the sectors of a read that
+-- move
 abbrev pub MayLack : HbaView → Action → Type 0
 MayLack h (Page page p) = Unit {0}
-MayLack h (Store s p) = writes_log h.device s ≡ true
+MayLack h (Store s p) = StoreMayLack h s
 MayLack h (Flush a) = LacksRoom h.port
 MayLack h (Sectors write span p) = moves_some h.port write span (stops_at h.port span (marked_for h (Sectors write span p))) ≡ true
 MayLack h other = ⊥

@@ -1,6 +1,6 @@
 -- What the disk of a controller keeps between commands (ACS-3, "SET FEATURES", "SMART" and "IDENTIFY DEVICE").
 use Rattle.std.specs.Prelude.{ℕ, Bool}
-use Rattle.hba_command.specs.Device.{after_ending, device_after_reply, named, reset_device, with_cache}
+use Rattle.hba_command.specs.Device.{after_ending, device_after_reply, named, reset_device, with_cache, with_trim_zeros}
 use Rattle.hba_command.specs.declared.device.Device.{Device}
 use Rattle.hba_command.specs.declared.identity.Identity.{Identity}
 use Rattle.hba_command.specs.declared.reply.Reply.{Reply}
@@ -26,6 +26,10 @@ device_after Reset d = reset_device d
 -- the disk has a volatile write cache or not, and another name
 abbrev pub cached : Bool → HbaView → HbaView
 cached has h = keeping h (with_cache has h.device)
+
+-- its trimmed sectors read as zeros, or a trim is advice
+abbrev pub trim_turned : Bool → HbaView → HbaView
+trim_turned trim_zeros h = keeping h (with_trim_zeros trim_zeros h.device)
 
 abbrev pub renamed : Identity → HbaView → HbaView
 renamed identity h = keeping h (named identity h.device)

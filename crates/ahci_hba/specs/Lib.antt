@@ -12,6 +12,7 @@ pub mod PoweringOn
 pub mod Delivering
 pub mod Failing
 pub mod Storing
+pub mod Zeroing
 pub mod Events
 pub mod Plugging
 pub mod Executing

@@ -1,7 +1,7 @@
 -- What becomes of a controller when another disk is plugged in where one was pulled out (AHCI 1.3.1, chapter 7 "Hot Plug Operation"), and why none is.
 use Rattle.std.specs.Prelude.{ℕ, Bool, List, Option, Some, if◌then◌else◌}
 use Rattle.std.specs.Option.{option_map}
-use Rattle.hba_command.specs.Device.{named, new_device, with_cache}
+use Rattle.hba_command.specs.Device.{named, new_device, with_cache, with_trim_zeros}
 use Rattle.hba_command.specs.declared.device.Device.{Device}
 use Rattle.hba_command.specs.declared.identity.Identity.{Identity}
 use Rattle.ahci_port.specs.Faults.{over_refusal}
@@ -12,9 +12,9 @@ use Rattle.ahci_hba.specs.States.{hba_over}
 use Rattle.ahci_hba.specs.declared.fault.PlugFault.{PlugFault}
 use Rattle.ahci_hba.specs.declared.fault.PlugFault.TheVariants.{Occupied, Disk}
 
--- the disk that comes is as new, and has another name; whether it has a volatile write cache is as before (profile)
+-- the disk that comes is as new, and has another name; whether it has a volatile write cache, and whether its trimmed sectors read as zeros, is as before (profile)
 abbrev pub other_device : HbaView → Identity → Device
-other_device h identity = named identity (with_cache h.device.has_cache new_device)
+other_device h identity = named identity (with_trim_zeros h.device.trim_zeros (with_cache h.device.has_cache new_device))
 
 -- another disk is plugged in: the controller is as one that is made over it, but that the registers are those of the controller that is there, and that
 -- the journal goes on by number. Then the disk makes itself known, as the one that was pulled out would

@@ -1,11 +1,12 @@
 -- Which step the device can take next with the command of a slot, and what it does (AHCI 1.3.1, sections 5.3, 6.2.2 and 10.4.1).
-use Rattle.std.specs.Prelude.{◌≡◌, ℕ, Bool, true, false, not, ◌&&◌, ◌||◌, nat_eq, Option, None, Some, is_some, if◌then◌else◌}
+use Rattle.std.specs.Prelude.{◌≡◌, ℕ, Bool, true, false, not, ◌&&◌, ◌||◌, nat_eq, List, Option, None, Some, is_some, if◌then◌else◌}
 use Rattle.std.specs.List.{list_any}
 use Rattle.hba_command.specs.Action.{action_of}
 use Rattle.hba_command.specs.declared.action.Action.{Action}
 use Rattle.hba_command.specs.declared.action.Action.TheVariants as action
 use Rattle.hba_command.specs.declared.log.Log.TheVariants.{Host, Pages, QueuedError}
 use Rattle.hba_command.specs.declared.page.Page.TheVariants.{Disk, Identify, Log}
+use Rattle.hba_command.specs.declared.trim_range.TrimRange.{TrimRange}
 use Rattle.ncq_journal.specs.Halted.{halted}
 use Rattle.ncq_journal.specs.History.{History}
 use Rattle.ncq_journal.specs.Phase.{phase}
@@ -21,6 +22,8 @@ use Rattle.ahci_hba.specs.Marking.{marked_for}
 use Rattle.ahci_hba.specs.Queueing.{IsAccepted, IsServed, Sends, asked_for, command_at, fetching, goes_to_port, has_alone, has_queued, has_tag, is_failed, is_listening, is_on, is_ready, is_running, is_sent, list_in, may_fetch, task_in}
 use Rattle.ahci_hba.specs.Recovering.{ReadsErrorLog, error_log_in}
 use Rattle.ahci_hba.specs.Resetting.{IsControlled, control_in, control_journal}
+use Rattle.ahci_hba.specs.Storing.{content_in}
+use Rattle.ahci_hba.specs.Zeroing.{can_zero, makes_zeros, zeroed_next}
 use Rattle.ahci_hba.specs.declared.fault.HbaFault.{HbaFault}
 use Rattle.ahci_hba.specs.declared.fault.HbaFault.TheVariants.{NotReady, OutOfMemory}
 use Rattle.ahci_hba.specs.declared.step.Step.{Step}
@@ -92,7 +95,7 @@ is_answered h (action.Page (Log (Pages l pages)) p) = true
 is_answered h (action.Page (Log (Host pages)) p) = true
 is_answered h (action.Page (Log QueuedError) p) = list_any has_queued h.slots || not (halted h.port.past)
 is_answered h (action.Page (Disk page) p) = true
-is_answered h (action.Store s p) = true
+is_answered h (action.Store s p) = is_aborted h (action.Store s p) || not (makes_zeros h s) || can_zero h.port
 is_answered h (action.Flush a) = is_aborted h (action.Flush a) || not (is_some (plain_refusal h.port))
 is_answered h (action.Reply r) = true
 is_answered h (action.Control reset) = false
@@ -105,6 +108,16 @@ is_answered_at h other = false
 
 abbrev pub may_execute : HbaView → ℕ → Bool
 may_execute h slot = is_ready h && is_answered_at h (command_at h slot)
+
+-- the sectors that it makes zeros by that, if it does
+abbrev pub zeroed_by : HbaView → Action → List ℕ → Option TrimRange
+zeroed_by h (action.Store s p) bytes = zeroed_next h s bytes
+zeroed_by h other bytes = None
+
+abbrev pub trim_range : HbaView → ℕ → Option TrimRange
+trim_range h slot =
+    if may_execute h slot && not (is_aborted h (action_of (task_in (command_at h slot)))) then zeroed_by h (action_of (task_in (command_at h slot))) (content_in (command_at h slot))
+    else None
 
 -- the device fails a command that is read and not queued
 abbrev pub may_refuse : HbaView → ℕ → Bool

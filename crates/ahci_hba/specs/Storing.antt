@@ -15,7 +15,7 @@ use Rattle.hba_command.specs.declared.store.Store.{Store}
 use Rattle.hba_command.specs.declared.store.Store.TheVariants.{Buffer, Log, Trim}
 use Rattle.hba_memory.specs.Processing.{has_processed}
 use Rattle.ahci_port.specs.PortView.{PortView, sectors_in}
-use Rattle.ahci_hba.specs.Delivering.{aborted, beginning, closing, d2h_fis, done}
+use Rattle.ahci_hba.specs.Delivering.{aborted, beginning, closing, done}
 use Rattle.ahci_hba.specs.Failing.{concluded, vacated}
 use Rattle.ahci_hba.specs.HbaView.{CommandView, Fetched, HbaView, Pio}
 use Rattle.ahci_hba.specs.Keeping.{keeping}
@@ -27,9 +27,10 @@ abbrev pub content_in : Option CommandView → List ℕ
 content_in (Some (Fetched t list bytes)) = bytes
 content_in other = []
 
--- the answer: a trim whose ranges name a sector that is not on the disk has IDNF and ABRT
+-- the answer: a trim with a range that names a sector that is not on the disk is aborted. IDNF is for an address where "command aborted is not returned" (ACS-3, "Error
+-- field", ID Not Found bit)
 abbrev pub store_fis : PortView → Store → List ℕ → D2hFields
-store_fis port (Trim blocks) bytes = if leaves_disk (sectors_in port) bytes then d2h_fis 0x41 0x14 0 0 else done
+store_fis port (Trim blocks) bytes = if leaves_disk (sectors_in port) bytes then aborted else done
 store_fis port Buffer bytes = done
 store_fis port (Log pages) bytes = done
 

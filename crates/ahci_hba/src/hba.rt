@@ -22,6 +22,7 @@ mod storing;
 mod transferring;
 mod trimming;
 mod writing;
+mod zeroing;
 
 ghost use Rattle.std.specs.Prelude.{◌≡◌, ◌/◌, ◌≤◌, None, IfErr, IfOk, OnOk, length, replicate};
 ghost use Rattle.hba_regs.specs.Accessing.{read_of};

@@ -111,13 +111,18 @@ fn entry_command<A: Allocator>(
     }
 }
 
-/// The comment of an entry without a command.
+/// The comment of an entry without a command: of those that are not sectors that become zeros, READ LOG EXT alone has none.
 fn comment_of<A: Allocator>(event: &Event<A>) -> &'static [u8]
     ensures { result.now ≡ comment_of (entry_of event.now) }
 {
     match event {
         Event::Zero { .. } => b"# DATA SET MANAGEMENT",
-        _ => b"# READ LOG EXT",
+        Event::Issue(_, _) | Event::Accept(_) | Event::Complete(_) | Event::Fail { .. } => {
+            b"# READ LOG EXT"
+        }
+        Event::Recover(_) | Event::Reissue(_) | Event::Collect(_) | Event::Plain(_) => {
+            b"# READ LOG EXT"
+        }
     }
 }
 

@@ -2,6 +2,7 @@
 -- pointers lead.
 use Rattle.std.specs.Prelude.{◌≡◌, ℕ, ◌^◌, ◌⊎◌, List, length, nat_le, Option, None, Some, IsSomeAnd, if◌then◌else◌}
 use Rattle.ncq_journal.specs.History.{History}
+use Rattle.hba_command.specs.declared.trim_range.TrimRange.{TrimRange}
 use Rattle.hba_regs.specs.Accessing.{read_of, size_of, write_of}
 use Rattle.hba_regs.specs.declared.access_size.AccessSize.{AccessSize}
 use Rattle.hba_regs.specs.declared.device_kind.DeviceKind.TheVariants.{Disk}
@@ -16,7 +17,7 @@ use Rattle.ahci_hba.specs.HbaView.{HbaView}
 use Rattle.ahci_hba.specs.Moving.{put_next, run_read, supplied}
 use Rattle.ahci_hba.specs.PoweringOn.{power_on_journal, powered_on}
 use Rattle.ahci_hba.specs.Resetting.{may_sign, signing}
-use Rattle.ahci_hba.specs.Stepping.{IsTaken, may_fail, may_refuse, next_step}
+use Rattle.ahci_hba.specs.Stepping.{IsTaken, may_fail, may_refuse, next_step, trim_range}
 use Rattle.ahci_hba.specs.Trimming.{trimmed_hba}
 use Rattle.ahci_hba.specs.declared.step.Step.{Step}
 
@@ -74,6 +75,19 @@ abbrev pub AnswersStep : (slot : ℕ) → Status → (old new : HbaView) → (be
 AnswersStep slot answer old new before after =
     ToldOr answer (with_tag slot (unless_possible (next_step old slot))) (IsSomeAnd (next_step old slot) (HasTaken slot old new after))
     ((new ≡ old) × (after ≡ before))
+
+-- the sectors that the next step makes zeros: the first of them and how many, which is 0 if it makes none so
+abbrev pub first_zeroed : Option TrimRange → ℕ
+first_zeroed None = 0
+first_zeroed (Some range) = range.lba
+
+abbrev pub many_zeroed : Option TrimRange → ℕ
+many_zeroed None = 0
+many_zeroed (Some range) = range.sectors
+
+abbrev pub AnswersTrimRange : (slot : ℕ) → Status → HbaView → (lba lba' sectors sectors' : ℕ) → Type 0
+AnswersTrimRange slot answer h lba lba' sectors sectors' =
+    Told answer (with_tag slot None) ((lba' ≡ first_zeroed (trim_range h slot)) × (sectors' ≡ many_zeroed (trim_range h slot))) ((lba' ≡ lba) × (sectors' ≡ sectors))
 
 -- whatever else may be, an allocation can have failed
 abbrev pub OrLacks : (told : Type 0) → Status → (same : Type 0) → Type 0

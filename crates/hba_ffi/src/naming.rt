@@ -1,9 +1,9 @@
-//! What names the disk, and whether it has a volatile write cache.
+//! What names the disk, and whether it has a volatile write cache and trimmed sectors that read as zeros.
 
 ghost use Rattle.std.specs.Prelude.{◌≡◌, true};
 ghost use Rattle.std.specs.List.{list_all};
 ghost use Rattle.ahci_ffi.specs.Flat.{number_if};
-ghost use Rattle.ahci_hba.specs.Keeping.{cached};
+ghost use Rattle.ahci_hba.specs.Keeping.{cached, trim_turned};
 ghost use Rattle.hba_ffi.specs.Naming.{AnswersNaming, identity_of, is_character, is_identity, is_rotation};
 
 use crate::flat::FlatIdentity;
@@ -77,6 +77,15 @@ pub fn write_cache<A: Allocator, S: SectorStore>(hba: &mut Hba<A, S>, has_cache:
     ensures state { hba.new ≡ cached has_cache hba.old }
 {
     hba.set_cache(has_cache);
+    Status::Done
+}
+
+/// Trimmed sectors read as zeros from now on, or a trim is advice.
+pub fn trim_zeros<A: Allocator, S: SectorStore>(hba: &mut Hba<A, S>, trim_zeros: bool) -> Status
+    ensures done { result ≡ Status.Done }
+    ensures state { hba.new ≡ trim_turned trim_zeros hba.old }
+{
+    hba.set_trim_zeros(trim_zeros);
     Status::Done
 }
 

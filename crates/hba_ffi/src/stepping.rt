@@ -1,7 +1,7 @@
 //! The device's steps with the commands of the slots.
 
 ghost use Rattle.std.specs.Prelude.{◌≡◌};
-ghost use Rattle.hba_ffi.specs.Calls.{AnswersEnd, AnswersFail, AnswersRefuse, AnswersSign, AnswersStep};
+ghost use Rattle.hba_ffi.specs.Calls.{AnswersEnd, AnswersFail, AnswersRefuse, AnswersSign, AnswersStep, AnswersTrimRange};
 
 use crate::registers::entries_in;
 use ahci_ffi::Status;
@@ -31,6 +31,27 @@ pub fn step<A: Allocator + Copy, S: SectorStore>(
         Err(HbaFault::NotReady) => Status::NotReady,
         Err(HbaFault::OutOfMemory) => Status::Refused(Refusal::OutOfMemory),
     }
+}
+
+/// The sectors that the next step of a slot's command makes zeros: the first of them and how many, 0 if it makes none so.
+pub fn trim_range<A: Allocator, S: SectorStore>(
+    hba: &Hba<A, S>,
+    slot: u32,
+    lba: &mut u64,
+    sectors: &mut u32,
+) -> Status
+    ensures { AnswersTrimRange slot result hba.now lba.old lba.new sectors.old sectors.new }
+{
+    let Some(slot) = Slot::of(slot) else {
+        return Status::BadTag;
+    };
+    let (first, count) = match hba.trim_range(slot) {
+        Some(range) => (range.lba, range.sectors),
+        None => (0, 0),
+    };
+    *lba = first;
+    *sectors = count;
+    Status::Done
 }
 
 /// The device fails a queued command that it has taken, with an error byte at one of its sectors.

@@ -136,7 +136,7 @@ fn reads_error_log(action: &Action) -> bool
 impl<A: Allocator, S: SectorStore> Hba<A, S> {
     /// Why the device aborts a command that is not queued: queued ones are outstanding, or log 10h is to be read, but for a command that reads it, or it is
     /// READ or WRITE MULTIPLE and no block size is set.
-    fn is_aborted(&self, action: &Action) -> bool
+    pub(super) fn is_aborted(&self, action: &Action) -> bool
         ensures { result ≡ is_aborted self.now action.now }
     {
         self.is_queueing()
@@ -173,7 +173,8 @@ impl<A: Allocator, S: SectorStore> Hba<A, S> {
             Action::Page(Page::Log(Log::QueuedError), _) => {
                 self.is_queueing() || !self.port.halted()
             }
-            Action::Store(_, _) | Action::Reply(_) => true,
+            Action::Store(store, _) => self.is_aborted(action) || self.takes_data(store),
+            Action::Reply(_) => true,
             Action::Control { .. } => false,
             Action::Abort => true,
         }
@@ -319,7 +320,7 @@ impl<A: Allocator + Copy, S: SectorStore> Hba<A, S> {
             Action::Page(Page::Disk(page), protocol) => {
                 self.read_disk_page(slot, *page, *protocol)
             }
-            Action::Store(store, protocol) => self.store(slot, store, *protocol),
+            Action::Store(store, protocol) => self.take_data(slot, store, *protocol),
             Action::Flush(_) => self.flush(slot),
             Action::Reply(reply) => {
                 self.reply(slot, reply);
@@ -343,12 +344,13 @@ impl<A: Allocator + Copy, S: SectorStore> Hba<A, S> {
     }
 
     /// The device answers the command of a slot: it executes one that is not queued and that the port moves no sectors for, or it aborts the
-    /// command. A read of a marked sector, or past the last one, moves the sectors before it. If queued commands are outstanding it aborts them too: none is taken, served or
+    /// command. A read of a marked sector, or past the last one, moves the sectors before it. A TRIM on a disk whose trimmed sectors read as zeros has a step for each
+    /// range that names sectors, which makes those zeros and answers nothing, and then one that answers. If queued commands are outstanding it aborts them too: none is taken, served or
     /// sent any more, and each other command is aborted until log 10h is read or a reset comes (ACS-3, "Native Command Queuing").
     ///
     /// # Errors
-    /// `NotReady` exactly if `may_execute` is false; else `OutOfMemory` if a page, a log that is written, a flush or a read's sectors want memory and an allocation failed,
-    /// and it can be tried again. Nothing has changed.
+    /// `NotReady` exactly if `may_execute` is false; else `OutOfMemory` if a page, a log that is written, sectors that become zeros, a flush or a read's sectors want
+    /// memory and an allocation failed, and it can be tried again. Nothing has changed.
     pub fn execute(&mut self, slot: Slot) -> Result<(), HbaFault>
         ensures ready { OnOk result (may_execute self.old slot ≡ true) }
         ensures ok { OnOk result (IsExecuted slot self.old self.new) }

@@ -2,12 +2,12 @@
 
 ghost use Rattle.std.specs.Prelude.{◌≡◌};
 ghost use Rattle.hba_command.specs.Device.{after_srst, power_cycled};
-ghost use Rattle.ahci_hba.specs.Keeping.{cached, changed_by, device_after, device_ended, keeping, renamed};
+ghost use Rattle.ahci_hba.specs.Keeping.{cached, changed_by, device_after, device_ended, keeping, renamed, trim_turned};
 
 use crate::hba::Hba;
 use hba_command::{
     Device, Identity, Reply, after_ending, after_srst, device_after_reply, named, power_cycled,
-    reset_device, with_cache,
+    reset_device, with_cache, with_trim_zeros,
 };
 use hba_regs::{Consequence, Slot};
 use sector_store::SectorStore;
@@ -82,6 +82,15 @@ impl<A: Allocator, S: SectorStore> Hba<A, S> {
         ensures { self.new ≡ cached has_cache self.old }
     {
         let device = with_cache(&self.device, has_cache);
+        self.keep(device);
+    }
+
+    /// Trimmed sectors read as zeros from now on, or DATA SET MANAGEMENT with TRIM is advice that changes no sector, as on a new disk. Word 69 and page 03h of
+    /// log 30h say which (ACS-3, DRAT and RZAT).
+    pub fn set_trim_zeros(&mut self, trim_zeros: bool)
+        ensures { self.new ≡ trim_turned trim_zeros self.old }
+    {
+        let device = with_trim_zeros(&self.device, trim_zeros);
         self.keep(device);
     }
 

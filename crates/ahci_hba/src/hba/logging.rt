@@ -174,6 +174,19 @@ impl<A: Allocator + Copy, S: SectorStore> Hba<A, S> {
 }
 
 impl<A: Allocator, S: SectorStore> Hba<A, S> {
+    /// The data of the command of a slot that was read.
+    pub(super) fn content_in(&self, slot: Slot) -> &[u8]
+        ensures { result.now ≡ content_in (command_at self.now slot) }
+    {
+        match &self.slots[slot.index()] {
+            Some(slot) => match &slot.command {
+                Command::Fetched(_, _, bytes) => bytes,
+                Command::Sent(_, _) => &[],
+            },
+            None => &[],
+        }
+    }
+
     /// The logs of the host's are these from now on.
     fn log(&mut self, logs: HostLogs<A>)
         ensures { self.new ≡ logging self.old logs }
@@ -215,19 +228,6 @@ impl<A: Allocator + Copy, S: SectorStore> Hba<A, S> {
                 self.log(logs);
                 self.close(slot, 512 * blocks, processed, done());
             }
-        }
-    }
-
-    /// The data of the command of a slot that was read.
-    fn content_in(&self, slot: Slot) -> &[u8]
-        ensures { result.now ≡ content_in (command_at self.now slot) }
-    {
-        match &self.slots[slot.index()] {
-            Some(slot) => match &slot.command {
-                Command::Fetched(_, _, bytes) => bytes,
-                Command::Sent(_, _) => &[],
-            },
-            None => &[],
         }
     }
 

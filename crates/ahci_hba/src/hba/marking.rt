@@ -61,8 +61,8 @@ impl<A: Allocator, S: SectorStore> Hba<A, S> {
         self.marked_for(&action_of(&self.task_in(slot)))
     }
 
-    /// Some sectors have other marks.
-    fn clear(&mut self, lba: u64, sectors: u32)
+    /// No sector of some is marked any more.
+    pub(super) fn clear(&mut self, lba: u64, sectors: u32)
         ensures { self.new ≡ marking self.old (without lba sectors self.old.marks) }
     {
         self.uncorrectable.clear(lba, sectors);

@@ -7,7 +7,7 @@ ghost use Rattle.ahci_hba.specs.Plugging.{other_device, other_plugged, plug_refu
 use crate::fault::PlugFault;
 use crate::hba::{Hba, SLOTS};
 use ahci_port::{Journal, Port, ResumeFault};
-use hba_command::{Device, HostLogs, Identity, Uncorrectable, named, with_cache};
+use hba_command::{Device, HostLogs, Identity, Uncorrectable, named, with_cache, with_trim_zeros};
 use sector_store::SectorStore;
 use std::alloc::Allocator;
 
@@ -47,14 +47,15 @@ impl<A: Allocator, S: SectorStore> Hba<A, S> {
         ensures { result ≡ other_device self.now identity.now }
     {
         let new = with_cache(&Device::new(), self.device.has_cache);
+        let new = with_trim_zeros(&new, self.device.trim_zeros);
         named(&new, identity)
     }
 }
 
 impl<A: Allocator + Copy, S: SectorStore + Drop> Hba<A, S> {
     /// Another disk is plugged in where one was pulled out: one over this store, with this name and queue depth. It is as new: its settings, logs, buffer and
-    /// counters are those of a disk that has never been used, no sector is marked uncorrectable, no page of the host's logs is written, it is Active, and it has a volatile write cache if the one
-    /// that was pulled out had one. It makes itself known as by `plug`. No command of the other one is left, so none reaches it. The store keeps its sectors as they are now.
+    /// counters are those of a disk that has never been used, no sector is marked uncorrectable, no page of the host's logs is written, it is Active, and it has a volatile write cache, and
+    /// trimmed sectors that read as zeros, if the one that was pulled out had. It makes itself known as by `plug`. No command of the other one is left, so none reaches it. The store keeps its sectors as they are now.
     ///
     /// The journal of the disk that was pulled out is the answer, with all that `unplug` has not handed out, and its store is dropped. The journal of the new one
     /// begins with the number that comes next.

@@ -7,7 +7,8 @@ ghost use Rattle.ahci_hba.specs.Storing.{content_in, kept_at_once, store_fis, st
 use crate::command::Command;
 use crate::fault::HbaFault;
 use crate::hba::Hba;
-use crate::hba::delivering::{d2h_fis, done};
+use crate::hba::delivering::done;
+use crate::hba::executing::aborted;
 use hba_command::{PrdEntry, Protocol, Store, after_store, blocks_of, leaves_disk};
 use hba_memory::{Blocks, has_processed};
 use hba_regs::Slot;
@@ -23,7 +24,7 @@ impl<A: Allocator, S: SectorStore> Hba<A, S> {
         match store {
             Store::Buffer | Store::Log(_) => done(),
             Store::Trim(_) => if leaves_disk(self.port.sectors(), bytes) {
-                d2h_fis(0x41, 0x14, 0, 0) // IDNF and ABRT
+                aborted()
             } else {
                 done()
             },

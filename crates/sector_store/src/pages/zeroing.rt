@@ -105,7 +105,13 @@ impl<B: Base, A: Allocator + Copy> Pages<B, A> {
     ///
     /// # Errors
     /// If there is no memory.
-    fn prepare_run(&mut self, lba: u64, sectors: u64, front: u64, back: u64) -> Result<(), AllocError>
+    fn prepare_run(
+        &mut self,
+        lba: u64,
+        sectors: u64,
+        front: u64,
+        back: u64,
+    ) -> Result<(), AllocError>
         requires inside { lba + sectors ≤ self.old.sectors }
         requires from { lba ≤ front }
         requires order { front ≤ back }
