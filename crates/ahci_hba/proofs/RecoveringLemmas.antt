@@ -1,4 +1,4 @@
--- A failed command has a request, which is done once the port has recovered; and what is told of it.
+-- A failed command has a request, which is done once the port has recovered; and what its log has of it.
 use Rattle.std.proofs.Common.{◌≡◌, ℕ, Bool, true, false, not, cond, List, Option, None, Some, IsSomeAnd, refl, ap, sym, subst, ◌∙◌}
 use Rattle.std.specs.Option.{option_map}
 use Rattle.hba_command.specs.declared.protocol.Protocol.{Protocol}

@@ -1,4 +1,4 @@
--- A command that was taken out of its slot is sent, or stands there again.
+-- A command that was taken out of its slot is sent, or is there again.
 use Rattle.std.proofs.Common.{◌≡◌, ℕ, zero, suc, List, [], ◌∷◌, set, Option, None, Some, Result, Ok, Err, OnOk, OnErr, refl, ap, sym, subst, ◌∙◌}
 use Rattle.std.proofs.lemmas.List.{set-get_or}
 use Rattle.hba_command.specs.declared.entry.PrdEntry.{PrdEntry}
@@ -9,7 +9,7 @@ use Rattle.ahci_port.specs.Steps.{IsSubmitted}
 use Rattle.ahci_hba.specs.HbaView.{CommandView, Fetched, Sent, HbaView}
 use Rattle.ahci_hba.specs.Queueing.{IsSent, Sends, asked_for, command_at}
 
--- of two writes to one place the later one stands
+-- of two writes to one place the later one holds
 pub set_twice : {X : Type 0} → (l : List X) (i : ℕ) (a b : X) → set (set l i a) i b ≡ set l i b
 set_twice [] zero a b = refl
 set_twice [] (suc i) a b = refl

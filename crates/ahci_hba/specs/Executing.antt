@@ -42,7 +42,7 @@ use Rattle.ahci_hba.specs.Powering.{awake, turned}
 use Rattle.ahci_hba.specs.Queueing.{command_at, has_no_blocks, has_queued, is_alone, is_failed, is_on, list_in, task_in}
 use Rattle.ahci_hba.specs.Zeroing.{StoreMayLack, Stores}
 
--- the signature of a disk stands in LBA and count (Serial ATA, "Signature")
+-- the signature of a disk is in LBA and count (Serial ATA, "Signature")
 abbrev pub signed : ℕ → ℕ → D2hFields
 signed status error = d2h_fis status error 1 1
 
@@ -78,7 +78,7 @@ abbrev pub native_max : Addressing → PortView → ℕ
 native_max Bits28 port = min 0x0FFFFFFF (sectors_in port - 1)
 native_max Bits48 port = sectors_in port - 1
 
--- a change is made, or the command is aborted if it isn't possible; SMART RETURN STATUS tells by LBA 23:8 C24Fh that no attribute has exceeded its
+-- a change is made, or the command is aborted if it isn't possible; SMART RETURN STATUS says by LBA 23:8 C24Fh that no attribute has exceeded its
 -- threshold, and is aborted while SMART operations are disabled
 abbrev pub changed_fis : Device → Change → D2hFields
 changed_fis d c = if allows d c then done else aborted
@@ -200,7 +200,7 @@ Executes false slot a list old new = Performs slot a list old new
 abbrev pub ExecutesAt : ℕ → Action → List PrdEntry → HbaView → HbaView → Type 0
 ExecutesAt slot a list old new = Executes (is_aborted old a) slot a list old new
 
--- an allocation can be refused: for a page, for what data change that are no sectors, for the journal that a flush stands in, and for the sectors of a read that
+-- an allocation can be refused: for a page, for what data change that are no sectors, for the journal that a flush is an entry of, and for the sectors of a read that
 -- move
 abbrev pub MayLack : HbaView → Action → Type 0
 MayLack h (Page page p) = Unit {0}

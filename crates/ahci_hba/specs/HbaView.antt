@@ -48,7 +48,7 @@ pub record HbaView : Type 0 where
   pub registers : HbaState
   -- the port behind them, with its disk and journal
   pub port : PortView
-  -- how many queued commands IDENTIFY DEVICE tells a driver to have outstanding
+  -- how many queued commands a driver may have outstanding by IDENTIFY DEVICE
   pub depth : ℕ
   -- the disk's power mode
   pub power : Power

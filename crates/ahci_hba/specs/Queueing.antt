@@ -89,7 +89,7 @@ comes_under_queued h slot = has_alone (command_at h slot) && (list_any has_queue
 abbrev pub is_on : PortView → SpanFields → Bool
 is_on port span = nat_le (span.lba + span.sectors) (sectors_in port)
 
--- the device has a tag: those below the depth that it tells (ACS-3, IDENTIFY DEVICE, word 75)
+-- the device has a tag: those below the depth that it reports (ACS-3, IDENTIFY DEVICE, word 75)
 abbrev pub has_tag : HbaView → QueuedFields → Bool
 has_tag h q = nat_lt q.tag h.depth
 
@@ -224,7 +224,7 @@ fis_put s port place n =
 abbrev pub only_after : List Put → PostingView
 only_after puts = record { before = []; content = []; count = []; after = puts }
 
--- the command of a slot is sent to the port: its request stands in the journal
+-- the command of a slot is sent to the port: its request is in the journal
 abbrev pub sent_to : HbaView → ℕ → CommandView → PortView → HbaView
 sent_to h slot c port = record h { port = port; slots = slice_set h.slots slot (Some c) }
 

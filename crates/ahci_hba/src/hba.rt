@@ -70,7 +70,7 @@ impl<A: Allocator, S: SectorStore> Model for Hba<A, S> {
     ghost invariant = { λ h. IsSound h.port h.depth h.slots.items (work_of h.work) };
 }
 
-/// The port of a disk with this image, which has a tag for each slot, whatever queue depth is told.
+/// The port of a disk with this image, which has a tag for each slot, whatever queue depth is reported.
 fn port_for<A: Allocator + Copy>(
     alloc: A,
     image: Vec<u8, A>,
@@ -117,7 +117,7 @@ fn empty_slots<A: Allocator>(alloc: A) -> Result<Vec<Option<Listed<A>>, A>, Allo
 }
 
 impl<A: Allocator + Copy> Hba<A> {
-    /// A controller after power-on with the usual capabilities, in front of a disk with this image. IDENTIFY DEVICE tells a queue of this depth,
+    /// A controller after power-on with the usual capabilities, in front of a disk with this image. IDENTIFY DEVICE reports a queue of this depth,
     /// while the command list has 32 slots.
     ///
     /// # Errors
@@ -212,7 +212,7 @@ impl<A: Allocator, S: SectorStore> Hba<A, S> {
         &self.registers
     }
 
-    /// The queue depth that IDENTIFY DEVICE tells.
+    /// The queue depth that IDENTIFY DEVICE reports.
     pub fn depth(&self) -> u32
         ensures { result ≡ self.now.depth }
     {

@@ -1,4 +1,4 @@
-//! What follows from the contracts of `Hba`. The functions change nothing: each stands for its clauses.
+//! What follows from the contracts of `Hba`. The functions change nothing: each is there for its clauses.
 ghost use Rattle.std.specs.Prelude.{◌≡◌, ◌<◌, ◌&&◌, ℕ, List, Option, None, Some, is_some, not, true, false};
 ghost use Rattle.std.specs.List.{list_any};
 ghost use Rattle.word_bits.specs.Places.{has_place};

@@ -1,7 +1,7 @@
 //! An AHCI controller with one port, as a real driver finds it: registers, commands in the driver's memory, and the model's port with its
 //! disk and journal behind them (AHCI 1.3.1, chapters 3, 4, 5, 6.2 and 10.1).
 //!
-//! The core has no callbacks. It says which run of the driver's memory it reads or writes next, and is given the bytes or told that they
+//! The core has no callbacks. It says which run of the driver's memory it reads or writes next, and is given the bytes or learns that they
 //! were written; so whoever has that memory copies, and no proof is owed to it.
 #![tactic(auto)]
 

@@ -3,7 +3,7 @@
 pub enum Step {
     /// The command is read: header, command FIS, PRDT, and a write's data.
     Fetch,
-    /// A command that moves sectors goes to the port: its request stands in the journal.
+    /// A command that moves sectors goes to the port: its request is in the journal.
     Send,
     /// The device takes it, or refuses it if it passes the last sector.
     Accept,

@@ -37,7 +37,7 @@ action_of (task.Control reset) = Control reset  -- the device control register
 action_of task.Packet = Reply reply.Packet  -- IDENTIFY PACKET DEVICE
 action_of task.Unknown = Abort  -- every other command
 
--- how many pages of 512 bytes a page stands for
+-- how many pages of 512 bytes a page is
 abbrev pub pages_in_log : Log → ℕ
 pages_in_log log.QueuedError = 1
 pages_in_log (log.Pages l pages) = pages.count

@@ -157,7 +157,7 @@ settings_task code f =
     else Unknown))))))
 
 -- SET MULTIPLE MODE, by its count: 0 disables READ and WRITE MULTIPLE (profile), and a block has a power of two of sectors, up to the most that word 47
--- of IDENTIFY DEVICE tells, 16
+-- of IDENTIFY DEVICE reports, 16
 abbrev pub mode_task : ℕ → Task
 mode_task count =
     if count == 0 then Change (Blocks Disabled)
@@ -224,6 +224,6 @@ abbrev pub command_task : H2dFields → Option QueuedFields → Task
 command_task f (Some q) = Queue q
 command_task f None = task_by f.command f
 
--- bit C tells a command from the device control register, whose bit 2 is SRST
+-- bit C distinguishes a command from the device control register, whose bit 2 is SRST
 abbrev pub task_of : H2dFields → Task
 task_of f = if f.c then command_task f (queued_in f) else Control (bit 2 f.control)

@@ -1,4 +1,4 @@
--- The words of a page, of which word w stands in bytes 2w and 2w + 1, the low one first (ACS-3, "IDENTIFY DEVICE").
+-- The words of a page, of which word w is in bytes 2w and 2w + 1, the low one first (ACS-3, "IDENTIFY DEVICE").
 use Rattle.std.specs.Prelude.{ℕ, zero, suc, ◌+◌, ◌*◌, List, slice_index, slice_set, take}
 use Rattle.std.specs.List.{replace_range}
 use Rattle.ncq_core.specs.Identify.{word_bytes}

@@ -146,7 +146,7 @@ impl<A: Allocator + Copy> HostLogs<A> {
 }
 
 /// What follows for a reader once some pages are written with data, which have 512 bytes for each: a page that was written has its bytes of the data, each other
-/// page is as before, and without any write all are zeros. The function changes nothing: it stands for its clauses.
+/// page is as before, and without any write all are zeros. The function changes nothing: it is there for its clauses.
 #[tactic(auto, using(crate::proofs::HostLogLaws::reads_back, crate::proofs::HostLogLaws::stays))]
 pub fn a_page_is_what_was_written_last<A: Allocator>(
     logs: &HostLogs<A>,

@@ -10,7 +10,7 @@ pub struct Identity {
     pub firmware: [u8; 8],
     /// Model number.
     pub model: [u8; 40],
-    /// Nominal media rotation rate: 0 of a disk that doesn't tell it, 1 of one that doesn't rotate, else revolutions a minute.
+    /// Nominal media rotation rate: 0 of a disk that doesn't report it, 1 of one that doesn't rotate, else revolutions a minute.
     pub rotation: u16,
 }
 

@@ -14,7 +14,7 @@ pub enum MultipleMode {
     Two,
     Four,
     Eight,
-    /// The most, as IDENTIFY DEVICE tells it: a Data FIS has no room for more.
+    /// The most, as IDENTIFY DEVICE reports it: a Data FIS has no room for more.
     Sixteen,
 }
 

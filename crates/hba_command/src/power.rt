@@ -17,7 +17,7 @@ pub enum Power {
     Sleep,
 }
 
-/// The count by which CHECK POWER MODE tells a mode.
+/// The count by which CHECK POWER MODE names a mode.
 pub fn power_count(power: Power) -> u16
     ensures { result ≡ power_count power }
 {

@@ -14,7 +14,7 @@ pub enum Reply {
     Marked(Span),
     /// The LBA of the last sector.
     NativeMax(Addressing),
-    /// The count that tells the power mode.
+    /// The count that names the power mode.
     PowerMode,
     /// The command is done, and the device is in this power mode.
     Entered(Power),

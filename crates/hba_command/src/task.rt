@@ -36,7 +36,7 @@ pub enum Task {
     SmartStatus,
     /// READ NATIVE MAX ADDRESS, with EXT or without: the LBA of the last sector is answered.
     NativeMax(Addressing),
-    /// CHECK POWER MODE: the count tells the power mode.
+    /// CHECK POWER MODE: the count names the power mode.
     PowerMode,
     /// IDLE, with IMMEDIATE or without.
     Idle,

@@ -17,7 +17,7 @@ use crate::store::Store;
 use crate::task::Task;
 use sata_fis::{H2d, is_set, queued};
 
-/// The sectors that a command of 28 bits names: LBA 27:24 stand in the device field, and a count of 0 means 256.
+/// The sectors that a command of 28 bits names: LBA 27:24 are in the device field, and a count of 0 means 256.
 fn short_span(h2d: &H2d) -> Span
     ensures { result ≡ short_span h2d.now }
 {
@@ -98,7 +98,7 @@ fn host_pages_asked(h2d: &H2d) -> HostPages
     }
 }
 
-/// READ LOG EXT and READ LOG DMA EXT: the log stands in LBA 7:0, and it has each page that is asked for, at least one.
+/// READ LOG EXT and READ LOG DMA EXT: the log is named by LBA 7:0, and it has each page that is asked for, at least one.
 fn log_task(h2d: &H2d, protocol: Protocol) -> Task
     ensures { result ≡ log_task h2d.now protocol }
 {

@@ -7,7 +7,7 @@ use Rattle.ncq_journal.specs.declared.phase.Phase.{Phase}
 use Rattle.ncq_journal.specs.declared.phase.Phase.TheVariants.{Free, Issued, Accepted, Held, Done}
 use Rattle.ncq_journal.specs.Entry.{Entry, Issue, Accept, Complete, Fail, Recover, Reissue, Collect, Unqueued, Zero}
 use Rattle.ncq_journal.specs.Halted.{halted, busy}
-use Rattle.ncq_journal.specs.Image.{sector_at, zeroed}
+use Rattle.ncq_journal.specs.Image.{zeroed}
 use Rattle.ncq_journal.specs.Lawful.{IsAllowed, IsLawful, MaySend, Fails, Fits}
 use Rattle.ncq_journal.specs.Laws.{AllFree, SectorsFollow, TwoParts, DeviceTagsInSact, CiInSact}
 use Rattle.ncq_journal.specs.Phase.{phase, phase_after, is_failed, is_busy}

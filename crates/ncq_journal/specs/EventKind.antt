@@ -19,7 +19,7 @@ kind_of (Collect tag) = kind.Collect tag
 kind_of (Unqueued command) = kind.Plain command
 kind_of (Zero lba sectors) = kind.Zero lba sectors
 
--- a command over some sectors: zeros stand for the bytes of a write
+-- a command over some sectors: zeros are in the place of the bytes of a write
 abbrev pub work_over : (write : Bool) → (lba sectors : ℕ) → Work
 work_over write lba sectors = if write then Write lba (replicate (512 * sectors) 0) else Read lba sectors
 

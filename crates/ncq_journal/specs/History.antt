@@ -11,7 +11,7 @@ pub record History : Type 0 where
   pub room : ℕ
   pub held : ℕ
 
--- the entries of the code's events, which stand with the oldest first
+-- the entries of the code's events, which have the oldest first
 abbrev pub history_of : {A : _} → List (Event A) → List Entry
 history_of events = reverse (map entry_of events)
 

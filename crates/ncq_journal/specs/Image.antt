@@ -32,7 +32,7 @@ abbrev pub is_write : Work → Bool
 is_write (Read lba sectors) = false
 is_write (Write lba bytes) = true
 
--- each sector of these bytes stands in the new image from the LBA on, and every other sector stays
+-- each sector of these bytes is in the new image from the LBA on, and every other sector stays
 abbrev pub IsWrittenOver : ℕ → List ℕ → List ℕ → List ℕ → Type 0
 IsWrittenOver lba bytes old new =
     (s : ℕ) → sector_at new s ≡ (if covers (Write lba bytes) s then sector_at bytes (s - lba) else sector_at old s)

@@ -193,7 +193,7 @@ TwoParts =
     (s d : ℕ) (image middle : List ℕ) (later past : List Entry) → IsLawful s d (later ++ past) → AllFree past → ((i : ℕ) → sector_at middle i ≡ sector image past i)
     → IsLawful s d later × ((i : ℕ) → sector image (later ++ past) i ≡ sector middle later i)
 
--- a tag stands after both parts where it stands after the later part alone
+-- a tag's command has come to the same after both parts as after the later part alone
 abbrev pub PhaseOfParts : Type 0
 PhaseOfParts = (later past : List Entry) (tag : ℕ) → AllFree past → phase (later ++ past) tag ≡ phase later tag
 

@@ -1,4 +1,4 @@
--- Where a tag's command stands after a journal (AHCI 1.3.1, "Native Command Queuing" and section 6.2.2).
+-- What a tag's command has come to after a journal (AHCI 1.3.1, "Native Command Queuing" and section 6.2.2).
 use Rattle.std.specs.Prelude.{ℕ, ◌==◌, if◌then◌else◌, Bool, true, false, List, [], ◌∷◌}
 use Rattle.ncq_journal.specs.declared.phase.Phase.{Phase}
 use Rattle.ncq_journal.specs.declared.phase.Phase.TheVariants.{Free, Issued, Accepted, Rejected, Broken, Held, Done}

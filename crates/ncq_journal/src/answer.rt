@@ -147,7 +147,7 @@ fn given<A: Allocator, B: Allocator>(
     }
 }
 
-/// The answer of request `number` after one more event: the first stands.
+/// The answer of request `number` after one more event: the first one holds.
 #[tactic(auto, using(crate::proofs::AnswerLemmas::proper_entry))]
 fn answer_after<A: Allocator, B: Allocator>(
     alloc: B,
@@ -169,7 +169,7 @@ fn answer_after<A: Allocator, B: Allocator>(
     }
 }
 
-/// What the request whose Issue stands at place `number` was answered after these events, the oldest first, over a starting
+/// What the request whose Issue is at place `number` was answered after these events, the oldest first, over a starting
 /// image: the first Complete or Fail of its tag after its Issue answers it. The bytes of an answered read take memory.
 #[tactic(auto, using(crate::proofs::HistoryLemmas::history_more, crate::proofs::HistoryLemmas::history_all))]
 pub fn answer_of<A: Allocator, B: Allocator + Clone>(

@@ -169,7 +169,7 @@ impl<A: Allocator + Copy> Journal<A> {
     }
 }
 
-/// The entry at this place among events that stand with the oldest first, counted from 0, where there is one.
+/// The entry at this place among events with the oldest first, counted from 0, where there is one.
 pub fn entry_in<A: Allocator>(events: &[Event<A>], place: u64) -> Option<&Event<A>>
     ensures { option_map entry_of (option_copied result) ≡ entry_at (history_of events.now) place }
 {

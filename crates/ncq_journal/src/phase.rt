@@ -1,4 +1,4 @@
-//! Where a tag's command stands after some events.
+//! What a tag's command has come to after some events.
 
 ghost use Rattle.std.specs.Prelude.{◌≡◌};
 ghost use Rattle.ncq_journal.specs.History.{history_of};
@@ -9,7 +9,7 @@ use crate::event::Event;
 use crate::event_kind::phase_after_kind;
 use std::alloc::Allocator;
 
-/// Where a tag's command stands (AHCI 1.3.1, "Native Command Queuing" and section 6.2.2).
+/// What a tag's command has come to (AHCI 1.3.1, "Native Command Queuing" and section 6.2.2).
 #[derive(Clone, Copy, Debug, PartialEq, Eq)]
 pub enum Phase {
     /// The slot has no request.

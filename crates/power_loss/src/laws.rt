@@ -1,4 +1,4 @@
-//! What follows from the definition. The functions change nothing: each stands for its clauses.
+//! What follows from the definition. The functions change nothing: each is there for its clauses.
 ghost use Rattle.std.specs.Prelude.{◌≡◌, ◌↔◌, ◌⊎◌, ◌∷◌, ℕ, List, false, true};
 ghost use Rattle.ncq_journal.specs.Entry.{Entry, Unqueued, Zero};
 ghost use Rattle.ncq_journal.specs.Image.{is_within, sector_at, zero_sector};

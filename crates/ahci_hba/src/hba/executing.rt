@@ -31,7 +31,7 @@ pub(super) fn aborted() -> D2h
     d2h_fis(0x41, 0x04, 0, 0)
 }
 
-/// The signature of a disk stands in LBA and count (Serial ATA, "Signature").
+/// The signature of a disk is in LBA and count (Serial ATA, "Signature").
 fn signed(status: u8, error: u8) -> D2h
     ensures { result ≡ signed status error }
 {

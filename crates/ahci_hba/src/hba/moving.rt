@@ -1,4 +1,4 @@
-//! How the controller reads and writes the driver's memory: it says what comes next, and is told once it is done.
+//! How the controller reads and writes the driver's memory: it says what comes next, and learns by a call that it is done.
 
 ghost use Rattle.std.specs.Prelude.{◌≡◌, true, length, OnErr, OnOk};
 ghost use Rattle.ahci_hba.specs.{HbaView.{command_of, work_of}, Moving.{address_of, allocates_with, block_ended, ended, ended_by, failed_fatally, host_failed, overflowed, place_of, placed_in, processed, put_done, put_next, read_so_far, run_read, spoiled, stuck_with, supplied, unmapped, want_of}};
@@ -228,7 +228,7 @@ impl<A: Allocator, S: SectorStore> Hba<A, S> {
         self.work = work;
     }
 
-    /// Goes on with a slot's command: it is read further, stands in its slot, or ends in a fatal error.
+    /// Goes on with a slot's command: it is read further, is in its slot, or ends in a fatal error.
     fn read_so_far(&mut self, slot: Slot, fetch: Fetch<A>)
         ensures { self.new ≡ read_so_far self.old slot fetch }
     {

@@ -99,7 +99,7 @@ impl<A: Allocator + Copy, S: SectorStore> Hba<A, S> {
         }
     }
 
-    /// The device moves the data of the command of a slot and completes it; its answer is taken from the port. It stands
+    /// The device moves the data of the command of a slot and completes it; its answer is taken from the port. It is kept
     /// in the controller until `deliver` puts it together. A queued read that finds a sector marked by WRITE UNCORRECTABLE EXT fails there, as by `fail` with
     /// UNC; nothing else is allocated for.
     ///

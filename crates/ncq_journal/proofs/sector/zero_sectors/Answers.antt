@@ -1,4 +1,4 @@
-use Rattle.std.proofs.Common.{◌≡◌, ◌∙◌, ◌*◌, ap, replicate, arith, rules}
+use Rattle.std.proofs.Common.{◌≡◌, ◌*◌, replicate, arith, rules}
 use Rattle.ncq_journal.proofs.ImageLemmas.{zeroed-put_mid}
 use Rattle.ncq_journal.proofs.sector.zero_sectors.Goals as goal
 
