@@ -2,10 +2,12 @@
 import os
 import re
 import subprocess
-from typing import NamedTuple, Tuple
+from typing import Dict, NamedTuple, Tuple
 
 SECONDS = 20  # in which a QEMU says its version
 NAMED = re.compile(r"qemu-([0-9]+)\.([0-9]+)\.json")
+# Versions that have no list of their own, by the one whose list they were judged with: nothing differs outside it.
+JUDGED_WITH: Dict[Tuple[int, ...], Tuple[int, ...]] = {(10, 0): (11, 1)}
 
 
 class Listed(NamedTuple):
@@ -26,10 +28,11 @@ def version_of(program: str) -> Tuple[int, ...]:
 
 
 def list_for(folder: str, program: str) -> Listed:
-    """The list of a QEMU: that of its version, or of the next older one that has a list."""
-    lists = {(int(it[1]), int(it[2])): it[0] for it in map(NAMED.fullmatch, os.listdir(folder)) if it}
+    """The list of a QEMU: that of its version, or the one that it was judged with, else that of the next older version that has a list."""
+    lists: Dict[Tuple[int, ...], str] = {(int(it[1]), int(it[2])): it[0] for it in map(NAMED.fullmatch, os.listdir(folder)) if it}
     there = version_of(program)
-    own = max((it for it in lists if it <= there), default=min(lists))
-    notice = "" if own == there or not there else (
+    wanted = JUDGED_WITH.get(there, there)
+    own = wanted if wanted in lists else max((it for it in lists if it <= there), default=min(lists))
+    notice = "" if own == wanted or not there else (
         f"this is QEMU {there[0]}.{there[1]}, and the list of known differences is that of QEMU {own[0]}.{own[1]}: what QEMU {there[0]}.{there[1]} does otherwise is reported as a new difference")
     return Listed(os.path.join(folder, lists[own]), notice)

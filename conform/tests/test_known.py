@@ -30,12 +30,12 @@ def word(place: str, expected: int, got: int) -> Difference:
 
 
 class Versions(unittest.TestCase):
-    def test_a_qemu_has_the_list_of_its_version_or_of_the_next_older_one_and_that_is_said(self) -> None:
+    def test_a_qemu_has_the_list_of_its_version_or_the_one_that_it_was_judged_with_or_of_the_next_older_one_and_that_is_said(self) -> None:
         with tempfile.TemporaryDirectory() as room:
             for name in ("qemu-7.2.json", "qemu-11.1.json", "any_port.json"):
                 with open(f"{room}/{name}", "w", encoding="utf-8"):
                     pass
-            for version, name, says in (("7.2.22 (Debian)", "qemu-7.2.json", ""), ("10.0.2", "qemu-7.2.json", "this is QEMU 10.0, and the list of known differences is that of QEMU 7.2"),
+            for version, name, says in (("7.2.22 (Debian)", "qemu-7.2.json", ""), ("10.0.2", "qemu-11.1.json", ""), ("9.2.4", "qemu-7.2.json", "this is QEMU 9.2, and the list of known differences is that of QEMU 7.2"),
                                         ("11.1.3", "qemu-11.1.json", ""), ("12.0", "qemu-11.1.json", "is that of QEMU 11.1"), ("6.1", "qemu-7.2.json", "this is QEMU 6.1")):
                 with open(f"{room}/qemu", "w", encoding="utf-8") as file:
                     file.write(f"#!/bin/sh\necho \"QEMU emulator version {version}\"\n")
