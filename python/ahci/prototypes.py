@@ -169,6 +169,8 @@ CALLS: Dict[str, List[Any]] = {
     "hba_identity": [to(HbaPlace), to(IdentityStruct)],
     "hba_write_cache": [to(HbaPlace), u32],
     "hba_write_cache_enabled": [to(HbaPlace), to(u32)],
+    "hba_trim_zeros": [to(HbaPlace), u32],
+    "hba_trim_range": [to(HbaPlace), u32, to(u64), to(u32)],
     "hba_lose_link": [to(HbaPlace), to(u64)],
     "hba_find_link": [to(HbaPlace)],
     "hba_unplug": [to(HbaPlace), to(u64)],
