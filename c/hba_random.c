@@ -1,6 +1,7 @@
 /* Plays bytes as what a driver and a disk do to one controller, and compares each call with the shadow of hba_shadow.h. With COUNT runs it makes
    the bytes itself: hba_random COUNT [FIRST], where FIRST is the number of the first run. */
 #include "hba_shadow_answers.h"
+#include "refusing.h"
 
 static const uint8_t *input;
 static size_t left;
@@ -39,6 +40,30 @@ static void moves(bool gone)
     follow(0);
 }
 
+/* Pages of a disk over a base that aren't named have what they had when the journal began. */
+static void compare_touched(void)
+{
+    uint32_t pages[SECTORS / 8];
+    uint64_t touched = 0;
+    bool named[SECTORS / 8] = { false };
+    CHECK(ahci_hba_touched(&hba, pages, SECTORS / 8, &touched) == (has_base ? AHCI_OK : AHCI_BAD_KIND));
+    for (uint64_t at = 0; at < touched; at++) {
+        CHECK(8 * pages[at] < has);
+        named[pages[at]] = true;
+    }
+    for (uint32_t at = 0; has_base && at < has * AHCI_SECTOR_BYTES; at++)
+        CHECK(named[at / AHCI_SECTOR_BYTES / 8] || image[at] == beginning[at]);
+}
+
+/* The disk's image is the shadow's. */
+static void compare_image(void)
+{
+    uint8_t sector[AHCI_SECTOR_BYTES];
+    for (uint64_t lba = 0; lba < has; lba++)
+        CHECK(ahci_hba_copy(&hba, lba, sector, sizeof sector) == AHCI_OK && memcmp(sector, image + lba * sizeof sector, sizeof sector) == 0);
+    compare_touched();
+}
+
 /* The first slot whose next step is this one, or any. */
 static uint32_t slot_at(uint32_t step)
 {
@@ -48,13 +73,45 @@ static uint32_t slot_at(uint32_t step)
     return byte() % 32;
 }
 
+/* The sectors that the next step of a slot makes zeros, which no other step has. */
+static void compare_range(uint32_t slot)
+{
+    struct range found = { 77, 77 };
+    const struct range due = slot < 32 && look.next[slot] == AHCI_STEP_EXECUTE ? range_due(slot) : no_range;
+    const uint32_t status = ahci_hba_trim_range(&hba, slot, &found.lba, &found.sectors);
+    CHECK(status == (slot > 31 ? AHCI_BAD_TAG : AHCI_OK));
+    CHECK(slot > 31 || (found.sectors == due.sectors && (!due.sectors || found.lba == due.lba)));
+}
+
+/* Takes a step for which one of its requests for memory may be refused: whether it is taken. If not, nothing has changed. */
+static bool is_stepped(uint32_t slot, uint32_t next, uint64_t *entries)
+{
+    ahci_state before, after;
+    CHECK(ahci_hba_port(&hba, &before) == AHCI_OK);
+    asked = 0;
+    refused_at = byte() % 16 ? -1 : byte() % 3;
+    const uint32_t status = ahci_hba_step(&hba, slot, entries);
+    const bool lacks = refused_at >= 0 && asked > refused_at;
+    refused_at = -1;
+    CHECK(status == (slot > 31 ? AHCI_BAD_TAG : next == AHCI_STEP_NONE ? AHCI_NOT_READY : lacks ? AHCI_OUT_OF_MEMORY : AHCI_OK));
+    if (lacks) {
+        counted.lacked++;
+        counted.lacked_zeros += look.next[slot] == AHCI_STEP_EXECUTE && range_due(slot).sectors;
+        CHECK(*entries == 0 && ahci_hba_port(&hba, &after) == AHCI_OK && memcmp(&before, &after, sizeof before) == 0);
+        compare_image();
+    }
+    return status == AHCI_OK;
+}
+
 /* The next step of a slot. */
 static void steps(uint32_t slot)
 {
     uint64_t entries = 0, lba;
     const uint32_t next = slot < 32 ? look.next[slot] : AHCI_STEP_NONE;
     struct command *it = &slots[slot % 32];
-    CHECK(ahci_hba_step(&hba, slot, &entries) == (slot > 31 ? AHCI_BAD_TAG : next == AHCI_STEP_NONE ? AHCI_NOT_READY : AHCI_OK));
+    compare_range(slot);
+    if (!is_stepped(slot, next, &entries))
+        return;
     CHECK(entries == 0 || next == AHCI_STEP_CONTROL || next == AHCI_STEP_RECOVER);
     switch (next) {
     case AHCI_STEP_FETCH:
@@ -79,7 +136,7 @@ static void steps(uint32_t slot)
             break;
         }
         if (it->writes)
-            turns_sectors(it, false);
+            turns_sectors(it->lba, end_of(it), false);
         follow(0);
         it->there = it->sent = false;
         transfer.on = true;
@@ -205,14 +262,6 @@ static bool is_busy(void)
     return busy;
 }
 
-/* The disk's image is the shadow's. */
-static void compare_image(void)
-{
-    uint8_t sector[AHCI_SECTOR_BYTES];
-    for (uint64_t lba = 0; lba < has; lba++)
-        CHECK(ahci_hba_copy(&hba, lba, sector, sizeof sector) == AHCI_OK && memcmp(sector, image + lba * sizeof sector, sizeof sector) == 0);
-}
-
 /* The journal is discarded, and nothing else changes: no register, no step, no byte that is moved next, and nothing of the queue. */
 static void trim(void)
 {
@@ -248,6 +297,9 @@ static uint64_t somewhere(void)
     const uint8_t pick = byte();
     return (pick & 1 ? HIGH + 0x2000 : LOW + 0x4000) + 16 * (pick & 0xFE);
 }
+
+/* The driver's command tables, and how many entries of a list one has room for. */
+enum { TABLE_BYTES = 0x800, MOST_LAID = (TABLE_BYTES - 0x80) / 16 };
 
 /* What a list is like: most have one entry of all the bytes, and the others may be too short too. */
 enum shape { WHOLE, FEW, MANY, SHORT, LONGER, NOWHERE, WILD, NONE, ANY_LENGTH, FEW_SHORT, MANY_SHORT, MORE };
@@ -325,6 +377,39 @@ static uint32_t bytes_of_pages(const uint8_t *fis)
 static uint8_t logged[3];
 static bool has_logged;
 
+/* The driver's data of a command, in the places of its list that are memory. */
+static void lay_data(const uint8_t *list, uint32_t entries, const uint8_t *bytes, uint32_t count)
+{
+    for (uint32_t i = 0; count && i < entries && i < MOST_LAID; i++, list += 16) {
+        const uint32_t size = (((uint32_t)little(list + 12, 4) & 0x3FFFFF) | 1) + 1, part = size < count ? size : count;
+        uint8_t *place = memory(little(list, 8) & ~(uint64_t)1, part);
+        if (place)
+            memcpy(place, bytes, part);
+        bytes += part;
+        count -= part;
+    }
+}
+
+/* The data of a TRIM: a few LBA Range Entries, anywhere in its blocks, of sectors that are on the disk, and now and then so many that no two are apart; one that names none, with any LBA;
+   and one time of eight one with sectors that are not on the disk. */
+static void lay_ranges(const uint8_t *list, uint32_t entries, uint32_t blocks)
+{
+    static uint8_t bytes[255 * AHCI_PAGE_BYTES];
+    const uint8_t pick = byte();
+    const uint32_t room = blocks * RANGES_OF_BLOCK, count = pick % 32 == 31 ? 20 : 1 + pick % 5;
+    memset(bytes, 0, blocks * AHCI_PAGE_BYTES);
+    for (uint32_t i = 0; room && i < count; i++) {
+        const uint8_t what = byte();
+        const uint32_t lba = what % has, most = has - lba;
+        put(bytes + byte() % room * RANGE_BYTES, lba | (uint64_t)(1 + what / 16 % most) << 48, RANGE_BYTES);
+    }
+    if (room && pick & 0x40)
+        put(bytes + byte() % room * RANGE_BYTES, pick & 0x80 ? 0xFFFFFFFFFFFF : has, RANGE_BYTES);
+    if (room && pick / 8 % 8 == 7)
+        put(bytes + byte() % room * RANGE_BYTES, pick & 0x80 ? 0x0001FFFFFFFFFFFF : (has - 1) | (uint64_t)2 << 48, RANGE_BYTES);
+    lay_data(list, entries, bytes, blocks * AHCI_PAGE_BYTES);
+}
+
 /* Half of the commands that aren't queued read the log that was written last. */
 static void read_back(uint8_t *fis, uint8_t odd)
 {
@@ -342,14 +427,14 @@ static void read_back(uint8_t *fis, uint8_t odd)
 static void command(void)
 {
     static const uint8_t codes[] = { 0x60, 0x61, 0x60, 0x61, 0x60, 0x61, 0x60, 0x61, 0xC8, 0xCA, 0x25, 0x35, 0x20, 0x20, 0x30, 0x24, 0x34, 0x34, 0xEC, 0x2F, 0x2F, 0x47, 0xEA, 0xE7, 0xEF, 0xA1,
-        0x40, 0x42, 0x27, 0x90, 0xE5, 0xE5, 0xE5, 0xE0, 0xE2, 0xE1, 0xE3, 0xE6, 0x00, 0xB0, 0xB0, 0xB0, 0xB0, 0xB0, 0xEF, 0xEF, 0xEF, 0xE4, 0xE8, 0xE8, 0xE9, 0xEB, 0x06, 0x06, 0x3D,
-        0xC4, 0xC5, 0x29, 0x39, 0xCE, 0xC6, 0xC6, 0xC6, 0xC4, 0x45, 0x3F, 0x3F, 0x57, 0x57, 0x2F, 0xB0, 0xB0 };
+        0x40, 0x42, 0x27, 0x90, 0xE5, 0xE5, 0xE5, 0xE0, 0xE2, 0xE1, 0xE3, 0xE6, 0x00, 0xB0, 0xB0, 0xB0, 0xB0, 0xB0, 0xEF, 0xEF, 0xEF, 0xE4, 0xE8, 0xE8, 0xE9, 0xEB, 0x3D,
+        0x06, 0x06, 0x06, 0x06, 0x06, 0x06, 0xC4, 0xC5, 0x29, 0x39, 0xCE, 0xC6, 0xC6, 0xC6, 0xC4, 0x45, 0x3F, 0x3F, 0x57, 0x57, 0x2F, 0xB0, 0xB0 };
     const uint32_t slot = byte() % 8 == 7 ? 31 : byte() % 6, code = codes[byte() % sizeof codes], bit = 1u << slot;
     const uint8_t far = byte(), lba = far % 32 ? far % 12 : far / 32 + 10, many = byte(), count = many % 128 ? 1 + many % 5 : 0, odd = byte();
     const bool queued = code == 0x60 || code == 0x61, log = code == 0x2F || code == 0x47, is_control = odd % 32 == 30 || (soft == HELD && odd % 4 == 2);
     const uint32_t tag = odd % 16 == 9 ? depth + many % 3 - 1 : slot;
-    const uint64_t at = (odd & 1 ? HIGH + 0x800 : LOW + 0x1000) + 0x800 * (slot % 3);
-    uint8_t *header = memory(list_base() + 32 * slot, 32), *table = memory(at, 0x800);
+    const uint64_t at = (odd & 1 ? HIGH + TABLE_BYTES : LOW + 0x1000) + TABLE_BYTES * (slot % 3);
+    uint8_t *header = memory(list_base() + 32 * slot, 32), *table = memory(at, TABLE_BYTES);
     uint8_t fis[20] = { 0x27, 0x80, (uint8_t)code, queued ? count : 3, lba, 0, 0, 0x40, 0, 0, 0, 0, queued ? (uint8_t)(tag << 3) : count };
     if (log) {
         static const uint8_t logs[] = { 0x10, 0x30, 0x10, 0x00, 0x03, 0x04, 0x07, 0x11 };
@@ -369,6 +454,8 @@ static void command(void)
     if (header) {
         memcpy(table, fis, sizeof fis);
         const uint32_t paged = bytes_of_pages(fis), entries = lay_list(table + 0x80, paged ? paged : count ? count * 512u : 0x2000);
+        if (fis[2] == 0x06)
+            lay_ranges(table + 0x80, entries, fis[12]);
         put(header, 5 | (odd & 0x40) | (is_control && many % 4 ? 0x500 : many % 64 == 33 ? 0x400 : 0) | entries << 16, 4);
         put(header + 4, 0, 4);
         put(header + 8, odd % 64 == 12 ? at + 0x20000 : at + (odd & 0x7F), 8);
@@ -465,16 +552,28 @@ static void power_cycle(void)
 
 /* ---- a loss of power ---- */
 
-/* What a sector may hold then: what it has, what it had, what some write has for it, or something else. */
+/* What a sector has, what it had, what some write has for it, or zeros. */
+static const uint8_t *bytes_for(uint32_t sector, uint32_t pick, uint32_t tag)
+{
+    const size_t at = sector * AHCI_SECTOR_BYTES;
+    const bool goes = going[tag].on && sector >= going[tag].lba && sector < going[tag].lba + going[tag].sectors;
+    if (pick % 16 == 7)
+        return zeros;
+    if (pick % 4 < 2)
+        return (pick % 4 ? beginning : image) + at;
+    if (pick % 4 == 2 && chance_count)
+        return chances[pick / 4 % chance_count].bytes;
+    return goes ? going[tag].bytes + at - going[tag].lba * AHCI_SECTOR_BYTES : durable + at;
+}
+
+/* What a sector may hold then: one of these, or something else. */
 static void lose_power(void)
 {
     const uint32_t sector = byte() % has, pick = byte(), tag = byte() % 32;
     const uint64_t at = (uint64_t)sector * AHCI_SECTOR_BYTES;
-    const bool goes = going[tag].on && sector >= going[tag].lba && sector < going[tag].lba + going[tag].sectors;
     uint8_t bytes[AHCI_SECTOR_BYTES];
     uint32_t may = 77;
-    memcpy(bytes, pick % 4 == 0 ? image + at : pick % 4 == 1 ? beginning + at : pick % 4 == 2 && chance_count ? chances[pick / 4 % chance_count].bytes : goes ? going[tag].bytes + at - going[tag].lba * AHCI_SECTOR_BYTES : durable + at,
-           sizeof bytes);
+    memcpy(bytes, bytes_for(sector, pick, tag), sizeof bytes);
     bytes[pick] ^= pick % 16 == 15;
     CHECK(ahci_hba_may_be_left(&hba, beginning + at, AHCI_SECTOR_BYTES, has, bytes, sizeof bytes, &may) == AHCI_NO_SUCH_SECTOR && may == 77);
     CHECK(ahci_hba_may_be_left(&hba, beginning + at, 511, sector, bytes, sizeof bytes, &may) == AHCI_WRONG_LENGTH && may == 77);
@@ -486,6 +585,14 @@ static void lose_power(void)
 }
 
 /* ---- events ---- */
+
+/* From now on, a TRIM makes its sectors zeros, as it mostly does, or only advises. */
+static void set_trim(void)
+{
+    const uint32_t supported = byte() % 8 ? 1 + byte() : 0;
+    CHECK(ahci_hba_trim_zeros(&hba, supported) == AHCI_OK);
+    disk.trim_zeros = supported != 0;
+}
 
 /* PhyRdy is lost, or the disk is pulled out: a queue with requests hands its journal out. */
 static void lose(bool pulls)
@@ -583,7 +690,7 @@ static void fail_interface(void)
 /* One of them, one time of four, so that runs get on. */
 static void event(void)
 {
-    static void (*const events[])(void) = { lose_link, find_link, unplug, plug, exchange, fail_interface };
+    static void (*const events[])(void) = { lose_link, find_link, unplug, plug, exchange, fail_interface, set_trim };
     if (byte() % 4 == 0)
         events[byte() % (sizeof events / sizeof *events)]();
 }
@@ -692,13 +799,15 @@ int LLVMFuzzerTestOneInput(const uint8_t *bytes, size_t count)
         move_all, move_all, move_all, move_one, move_one, step_this, fail, refuse, end, send, sign, sign, restart_if_halted, restart_if_halted, restart, reset, power_cycle, write_any, read_any,
         trim, scribble, pause, event, event, lose_power };
     uint8_t sector[AHCI_SECTOR_BYTES];
-    uint64_t entries = 77;
+    uint64_t entries = 77, lba;
+    uint32_t sectors;
     input = bytes;
     left = count;
     can = capabilities();
     depth = byte() % 2 ? 32 : 1 + byte() % 32;
     has_logged = false;
     begin();
+    set_trim();
     if (byte() % 16)
         start();
     while (left) {
@@ -717,6 +826,7 @@ int LLVMFuzzerTestOneInput(const uint8_t *bytes, size_t count)
     CHECK(ahci_hba_lose_link(&hba, &entries) == AHCI_NO_PORT && ahci_hba_find_link(&hba) == AHCI_NO_PORT && ahci_hba_unplug(&hba, &entries) == AHCI_NO_PORT);
     CHECK(ahci_hba_end(&hba, 0, 0x61, 0, 0) == AHCI_NO_PORT && ahci_hba_sign_as(&hba, 1) == AHCI_NO_PORT && ahci_hba_spoiled(&hba) == AHCI_NO_PORT);
     CHECK(ahci_hba_receive_bits(&hba, 1) == AHCI_NO_PORT && ahci_hba_receive_register(&hba) == AHCI_NO_PORT && ahci_hba_receive_unknown(&hba, sector, 4) == AHCI_NO_PORT);
+    CHECK(ahci_hba_trim_zeros(&hba, 1) == AHCI_NO_PORT && ahci_hba_trim_range(&hba, 0, &lba, &sectors) == AHCI_NO_PORT);
     static const ahci_identity unnamed;
     CHECK(ahci_hba_plug_other(&hba, sector, sizeof sector, 1, 32, &unnamed, &entries) == AHCI_NO_PORT && entries == 77);
     CHECK(ahci_hba_plug(&hba) == AHCI_NO_PORT && ahci_hba_fail_interface(&hba, AHCI_INTERFACE_CRC, 1) == AHCI_NO_PORT && entries == 77);
@@ -751,6 +861,10 @@ int main(int count, char **arguments)
     printf("and the disk took data that are no sectors %lu times; %lu answers and blocks ended entries with I\n", counted.stored, counted.told);
     printf("logs of the host's were written %lu times, and %lu pages were read that it had written\n", counted.logged, counted.reread);
     printf("%lu sectors were marked uncorrectable, %lu reads failed at one, and %lu were written again\n", counted.spoiled, counted.unread, counted.mended);
+    printf("%lu ranges of a TRIM became zeros, %lu of them in a second block, and %lu with sectors that the same command had made zeros before\n", counted.zeroed, counted.far, counted.overlapped);
+    printf("%lu TRIMs ended behind several such ranges, %lu were cut off behind some, %lu had sectors past the end, and %lu only advised\n", counted.several, counted.cut, counted.outside,
+        counted.advised);
+    printf("%lu steps lacked memory, %lu of which make sectors zeros\n", counted.lacked, counted.lacked_zeros);
     printf("after a loss of power a sector might have had some bytes %lu times, and %lu times not\n", counted.left, counted.lost_bytes);
     printf("%lu commands came under queued ones and aborted them, and %lu queued ones failed with ICRC\n", counted.mixed, counted.icrc);
     printf("%lu commands ended with another status, %lu signatures were not a disk's, and %lu FISes came that no command asks for\n", counted.ended, counted.foreign, counted.unasked);

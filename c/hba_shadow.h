@@ -51,15 +51,21 @@ static uint8_t mixed_error;
 static uint16_t icrc_ends, signatures;
 static enum power { ACTIVE, IDLE, STANDBY, SLEEP } power; /* the device's power mode (ACS-3, "Power Management feature set") */
 static bool pulled; /* the disk is pulled out */
+static bool has_base; /* it is over a base */
 /* What the disk keeps (ACS-3, SET FEATURES, SET MULTIPLE MODE, SMART, WRITE BUFFER): the level of APM is 0 if it is disabled, and so are the sectors of a block of READ and
-   WRITE MULTIPLE; the logs of self-tests are without their checksums. Logs 80h to 9Fh are the host's, of 16 pages each (ACS-3, "Host Specific logs"): no reset changes them. */
+   WRITE MULTIPLE; the logs of self-tests are without their checksums. Logs 80h to 9Fh are the host's, of 16 pages each (ACS-3, "Host Specific logs"): no reset changes them.
+   With trim_zeros a trimmed sector reads as zeros (ACS-3, word 69, DRAT and RZAT). */
 static struct {
-    bool has_cache, cache, ahead, reverts, smart;
+    bool has_cache, cache, ahead, reverts, smart, trim_zeros;
     uint8_t level, mode, per_block, tests[AHCI_PAGE_BYTES], more_tests[AHCI_PAGE_BYTES], buffer[AHCI_PAGE_BYTES], logs[32][16][AHCI_PAGE_BYTES];
 } disk;
 static uint8_t page[AHCI_PAGE_BYTES]; /* the log of that */
 /* Sectors that can't be read (ACS-3, "WRITE UNCORRECTABLE EXT"): neither a reset nor a power cycle makes them good, and only a write does. */
 static bool unreadable[SECTORS];
+
+/* Sectors that a TRIM names, by the first of them and how many. And those that one has made zeros and of which the journal's entry was not seen yet: none, if there are no sectors. */
+struct range { uint64_t lba; uint32_t sectors; };
+static struct range zeroed;
 
 /* A FIS of the device, or none, and whether it is still to be written to the received FIS area. */
 struct fis { uint8_t bytes[28]; uint32_t size; bool due; };
@@ -73,7 +79,7 @@ static struct command {
     enum kind kind;
     uint8_t fis[20];
     uint64_t lba, moved, room, used, into;
-    uint32_t sectors, pages, pieces, piece;
+    uint32_t sectors, pages, pieces, piece, entry, ranges; /* of a TRIM: the LBA Range Entry that comes next, and how many have become zeros */
     struct { uint64_t at, bytes; bool asks; } list[PIECES];
     uint8_t bytes[KEPT]; /* of a write as they were read, of a read as the image had them */
 } slots[32];
@@ -85,7 +91,10 @@ static struct { bool on, clears; uint32_t slot, phase, entries, piece; uint64_t 
 static struct { bool on, counts, spills, tells, signs, unasked; struct fis before, after; uint32_t slot, signature; uint64_t left; } answer;
 static struct { bool on, begun; uint32_t slot, sectors, past, per_block; struct fis end; } transfer;
 
-static struct { unsigned long done, halts, dropped, trims, blocks, long_blocks, spilled, stuck, partial, deep, slept, lost, found, pulled, other, tries, broken, ended, foreign, unasked, stored, left, lost_bytes, mixed, icrc, spoiled, unread, mended, told, logged, reread; } counted;
+static struct {
+    unsigned long done, halts, dropped, trims, blocks, long_blocks, spilled, stuck, partial, deep, slept, lost, found, pulled, other, tries, broken, ended, foreign, unasked, stored,
+        left, lost_bytes, mixed, icrc, spoiled, unread, mended, told, logged, reread, advised, outside, zeroed, overlapped, far, several, cut, lacked, lacked_zeros;
+} counted;
 
 static uint8_t *memory(uint64_t at, uint64_t count)
 {
@@ -141,6 +150,7 @@ static void drop(void)
 {
     for (uint32_t slot = 0; slot < 32; slot++) {
         counted.dropped += slots[slot].there;
+        counted.cut += slots[slot].there && slots[slot].ranges;
         slots[slot].there = false;
     }
     fetch.on = answer.on = transfer.on = false;
@@ -234,9 +244,10 @@ static void power_on(void)
 /* A disk that has never been used: SMART is enabled, and its logs have their revision and no test. */
 static void is_new(const char *name, uint32_t sectors)
 {
-    const bool has_cache = disk.has_cache;
+    const bool has_cache = disk.has_cache, trim_zeros = disk.trim_zeros;
     memset(&disk, 0, sizeof disk);
     disk.has_cache = has_cache;
+    disk.trim_zeros = trim_zeros;
     disk.tests[0] = disk.more_tests[0] = 1;
     disk.smart = true;
     memset(unreadable, 0, sizeof unreadable);
@@ -249,8 +260,8 @@ static void is_new(const char *name, uint32_t sectors)
 static void begin(void)
 {
     memset(&reg, 0, sizeof reg);
-    pulled = false;
-    disk.has_cache = false;
+    pulled = has_base = false;
+    disk.has_cache = disk.trim_zeros = false;
     is_new("00000001            ", SECTORS);
     power_on();
     memset(low, 0, sizeof low);
@@ -500,6 +511,7 @@ static void is_plugged(void)
 static void is_exchanged(const char *name, uint32_t sectors)
 {
     counted.other++;
+    has_base = true;
     is_new(name, sectors);
     mixed = false;
     icrc_ends = signatures = 0;

@@ -1,5 +1,5 @@
 /* The answers of the shadow's disk: its FISes, which bytes are written and when, and what is next of each slot. */
-#include "hba_shadow_settings.h"
+#include "hba_shadow_trim.h"
 
 /* ---- the device's FISes ---- */
 
@@ -207,6 +207,7 @@ static void ends_alone(uint32_t slot, uint8_t status, uint8_t error, uint64_t lb
     mixes(slot, status, error);
     is_ended(status, error);
     struct command *it = &slots[slot];
+    counted.cut += it->ranges != 0;
     const uint64_t data = it->kind == READ ? comes_before(it, lba) : 0;
     const struct fis fis = at_lba(it, status, error, it->kind == WRITE ? it->lba : lba);
     it->there = false;
@@ -251,7 +252,7 @@ static struct fis answer_to(const struct command *it)
         if (!it->sectors)
             return bad(it, 4, 0);
         if (!is_past(it))
-            turns_sectors(it, true);
+            turns_sectors(it->lba, end_of(it), true);
         return is_past(it) ? bad(it, 0x10, first_past(it)) : fis;
     case 0x40: case 0x42: return is_past(it) ? bad(it, 0x10, first_past(it)) : fis;
     case 0xF8: case 0x27: return at_lba(it, 0x40, 0, has - 1);
@@ -288,16 +289,19 @@ static void turns_by(const struct command *it)
     }
 }
 
-/* The disk takes data that are no sectors: its buffer, ranges that are trimmed, which changes nothing, or pages of a log of the host's, by PIO once the last block has come. */
+/* The disk takes data that are no sectors: its buffer; the entries of a TRIM, whose sectors are zeros by now or stay as they are; or pages of a log of the host's, by PIO once the
+   last block has come. */
 static void stores(uint32_t slot)
 {
     const struct command *it = &slots[slot];
-    const bool trims = it->fis[2] == 0x06, is_bad = trims && leaves_disk(it);
+    const bool trims = is_trim(it), is_bad = trims && leaves_disk(it);
     const struct fis end = is_bad ? d2h(0x40, 0x41, 0x14, 0) : good();
     if (it->host_log && !it->pio)
         writes_pages(it);
     if (!trims && !it->host_log)
         memcpy(disk.buffer, it->bytes, AHCI_PAGE_BYTES);
+    if (trims)
+        counts_trim(it, is_bad);
     counted.stored++;
     if (it->pio)
         begins(slot, it->moved, end);
@@ -305,12 +309,20 @@ static void stores(uint32_t slot)
         answers(slot, no_fis, 0, it->moved, true, end);
 }
 
-/* A command for which the queue moves no sectors is carried out, or aborted. */
+/* The sectors that the next step of a slot makes zeros, if that carries a command out. */
+static struct range range_due(uint32_t slot) { return is_aborted(slot) ? no_range : next_range(&slots[slot]); }
+
+/* A command for which the queue moves no sectors is carried out, or aborted. A TRIM that makes sectors zeros takes a step for each range, and then one that ends it. */
 static void executes(uint32_t slot)
 {
     struct command *it = &slots[slot];
     const bool aborted = is_aborted(slot);
+    const struct range range = range_due(slot);
     uint64_t lba;
+    if (range.sectors) {
+        makes_zeros(it, range);
+        return;
+    }
     if (aborted)
         mixes(slot, 0x41, 4);
     it->there = false;

@@ -2,6 +2,15 @@
 #include "hba_shadow.h"
 #include "hba_shadow_loss.h"
 
+/* The entry of sectors that became zeros: those of the step that was taken, and no others. */
+static void follow_zeros(const ahci_entry *entry)
+{
+    CHECK(entry->sectors && entry->lba == zeroed.lba && entry->sectors == zeroed.sectors && entry->lba + entry->sectors <= has && entry->tag == 0 && entry->error == 0);
+    zeroed.sectors = 0;
+    loss_zeroes(entry->lba, entry->sectors);
+    memset(image + entry->lba * AHCI_SECTOR_BYTES, 0, (size_t)entry->sectors * AHCI_SECTOR_BYTES);
+}
+
 /* The journal's new entries: a write's bytes are those that were read, and a completed command's are the image's. */
 static void follow(uint64_t entries)
 {
@@ -26,9 +35,7 @@ static void follow(uint64_t entries)
         } else if (entry.kind == AHCI_EVENT_FLUSH) {
             loss_flushes();
         } else if (entry.kind == AHCI_EVENT_ZERO) {
-            CHECK(entry.sectors && entry.lba < has && entry.sectors <= has - entry.lba);
-            loss_zeroes(entry.lba, entry.sectors);
-            memset(image + entry.lba * AHCI_SECTOR_BYTES, 0, (size_t)entry.sectors * AHCI_SECTOR_BYTES);
+            follow_zeros(&entry);
         } else if (entry.kind == AHCI_EVENT_COMPLETE) {
             loss_completes(entry.tag);
             CHECK(it->sent && it->lba + it->sectors <= has);
@@ -38,6 +45,7 @@ static void follow(uint64_t entries)
                 memcpy(it->bytes, image + it->lba * AHCI_SECTOR_BYTES, size);
         }
     }
+    CHECK(zeroed.sectors == 0);
     interrupt();
 }
 
@@ -112,7 +120,6 @@ static void writes_pages(const struct command *it)
 
 static void reads_pages(struct command *it)
 {
-    static const uint8_t zeros[AHCI_PAGE_BYTES];
     for (uint32_t i = 0; i < it->pages; i++) {
         memcpy(it->bytes + i * AHCI_PAGE_BYTES, host_page(it, i), AHCI_PAGE_BYTES);
         counted.reread += memcmp(host_page(it, i), zeros, AHCI_PAGE_BYTES) != 0;
@@ -155,6 +162,8 @@ static void lays_identify(uint8_t *to)
         to[20 + (at ^ 1)] = (uint8_t)serial[at];
     for (size_t i = 0; i < sizeof words / sizeof *words; i++)
         memcpy(to + 2 * words[i][0], words[i] + 1, 2);
+    to[2 * 69] |= disk.trim_zeros ? 0x20 : 0; /* RZAT, and DRAT, which has to be with it */
+    to[2 * 69 + 1] |= disk.trim_zeros ? 0x40 : 0;
     to[2 * 82] |= disk.has_cache ? 0x20 : 0;
     to[2 * 85] |= (uint8_t)((disk.smart ? 1 : 0) | (disk.cache ? 0x20 : 0) | (disk.ahead ? 0x40 : 0));
     to[2 * 86] |= disk.level ? 8 : 0;
@@ -166,11 +175,12 @@ static void lays_identify(uint8_t *to)
         put(to + 2 * (108 + i), wide_name(to) >> 16 * (3 - i), 2);
 }
 
-/* The supported capabilities and the current settings of log 30h, of which bit 63 says that they are valid. The capabilities are the bits of words 119, 84, 83, 82 and 69 in turn. */
+/* The supported capabilities and the current settings of log 30h, of which bit 63 says that they are valid. The capabilities are the bits of words 119, 84, 83, 82 and 69 in turn:
+   RZAT and DRAT, bits 5 and 14 of word 69, are bits 31 and 39. */
 static uint64_t capabilities_bits(void)
 {
     static const uint8_t bits[] = { 1, 2, 7, 8, 11, 12, 16, 20, 22, 23, 25, 27, 28, 35, 36, 63 };
-    uint64_t all = disk.has_cache ? 1u << 24 : 0;
+    uint64_t all = (disk.has_cache ? 1u << 24 : 0) | (disk.trim_zeros ? (uint64_t)1 << 31 | (uint64_t)1 << 39 : 0);
     for (size_t i = 0; i < sizeof bits; i++)
         all |= (uint64_t)1 << bits[i];
     return all;
@@ -295,7 +305,7 @@ static void asks(struct command *it, const uint8_t *fis)
     const bool is_multiple = code == 0x29 || code == 0x39 || code == 0xC4 || code == 0xC5 || code == 0xCE;
     memcpy(it->fis, fis, sizeof it->fis);
     it->sent = it->accepted = it->queued = it->writes = it->pio = it->multiple = it->error_log = it->long_log = it->host_log = it->is_smart = false;
-    it->pieces = it->piece = it->sectors = 0;
+    it->pieces = it->piece = it->sectors = it->entry = it->ranges = 0;
     it->room = it->used = it->into = 0;
     it->kind = OTHER;
     it->resets = fis[15] & 4;
@@ -360,10 +370,10 @@ static bool meets_unreadable(const struct command *it, uint64_t *lba)
     return false;
 }
 
-/* Its sectors can't be read any more, or can again. */
-static void turns_sectors(const struct command *it, bool bad)
+/* Sectors before an end can't be read any more, or can again. */
+static void turns_sectors(uint64_t lba, uint64_t end, bool bad)
 {
-    for (uint64_t lba = it->lba; lba < end_of(it); lba++) {
+    for (; lba < end; lba++) {
         counted.spoiled += bad;
         counted.mended += !bad && unreadable[lba];
         unreadable[lba] = bad;
