@@ -853,8 +853,9 @@ int main(int count, char **arguments)
     }
     printf("%lu runs of a controller, with %lu commands done, %lu dropped, %lu trims, and the port halted %lu times: the shadow has seen no difference\n", runs, counted.done, counted.dropped,
         counted.trims, counted.halts);
-    printf("of them %lu blocks by PIO, of which %lu had several sectors, %lu reads that spilled, %lu writes that were stuck, %lu failures behind the first sector, %lu tags past the depth, and %lu times in Sleep\n",
-        counted.blocks, counted.long_blocks, counted.spilled, counted.stuck, counted.partial, counted.deep, counted.slept);
+    printf("of them %lu blocks by PIO, of which %lu had several sectors, %lu reads that spilled, %lu writes that were stuck, %lu failures behind the first sector, ", counted.blocks,
+        counted.long_blocks, counted.spilled, counted.stuck, counted.partial);
+    printf("%lu tags past the depth, and %lu times in Sleep\n", counted.deep, counted.slept);
     printf("the link was lost %lu times, and COMINIT came %lu times; the disk was pulled out %lu times, and the driver then tried the link %lu times; and %lu errors of the interface\n", counted.lost,
         counted.found, counted.pulled, counted.tries, counted.broken);
     printf("%lu times another disk was plugged in\n", counted.other);

@@ -463,11 +463,16 @@ def user_mode_linux(room: str) -> str:
     raise Skipped("the machine was too busy in four runs: a read took more than 40 ms")
 
 
-CHECKS = [Check(sector, title="SeaBIOS and a boot sector"), Check(sector_error, title="SeaBIOS and an error"), Check(grub_bios, title="GRUB on BIOS"), Check(grub_uefi, title="GRUB on UEFI"), Check(uboot, title="U-Boot"),
+CHECKS = [Check(sector, title="SeaBIOS and a boot sector"), Check(sector_error, title="SeaBIOS and an error"), Check(grub_bios, title="GRUB on BIOS"),
+          Check(grub_uefi, title="GRUB on UEFI"), Check(uboot, title="U-Boot"),
           Check(boot_bios, title="GRUB boots Linux on BIOS", is_long=True), Check(boot_uefi, title="GRUB boots Linux on UEFI"), Check(linux_files, title="Linux, files"),
-          Check(linux_large, title="Linux, a larger disk", is_long=True), Check(linux_alone, title="Linux, without firmware's driver", is_long=True), Check(linux_shallow, title="Linux, a short queue"),
-          Check(linux_high, title="Linux, memory above 4 GiB"), Check(linux_small, title="Linux, few capabilities"), Check(linux_staggered, title="Linux, staggered spin-up", is_long=True), Check(linux_queue, title="Linux, queue", is_long=True), Check(linux_error, title="Linux, an error in the queue"),
-          Check(linux_lasting, title="Linux, a lasting error", is_long=True), Check(linux_merged, title="Linux, merged requests over a failing sector"), Check(linux_refused_log, title="Linux, a log that is refused", is_long=True),
+          Check(linux_large, title="Linux, a larger disk", is_long=True), Check(linux_alone, title="Linux, without firmware's driver", is_long=True),
+          Check(linux_shallow, title="Linux, a short queue"),
+          Check(linux_high, title="Linux, memory above 4 GiB"), Check(linux_small, title="Linux, few capabilities"),
+          Check(linux_staggered, title="Linux, staggered spin-up", is_long=True), Check(linux_queue, title="Linux, queue", is_long=True),
+          Check(linux_error, title="Linux, an error in the queue"),
+          Check(linux_lasting, title="Linux, a lasting error", is_long=True), Check(linux_merged, title="Linux, merged requests over a failing sector"),
+          Check(linux_refused_log, title="Linux, a log that is refused", is_long=True),
           Check(linux_stalled, title="Linux, a command without an answer"), Check(linux_two, title="Linux, two processors", is_long=True),
           Check(linux_reset, title="Linux, a reset of the machine"), Check(linux_flush, title="Linux, flushes and a kill"),
           Check(user_mode_linux, title="User Mode Linux", is_long=True, is_alone=True)]  # its reads wait 40 ms at most

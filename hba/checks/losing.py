@@ -166,7 +166,8 @@ def unwritten(room: str) -> str:
 # ---- file systems
 
 # the command that makes a file system, what it says after the image's name, its package, and the disk's sectors: the last MiB is not the file system's
-MAKERS: Dict[str, Tuple[List[str], List[str], str, int]] = {"ext4": (["mkfs.ext4", "-q", "-F"], ["64512k"], "e2fsprogs", 131072), "xfs": (["mkfs.xfs", "-q", "-f", "-d", "size=319m"], [], "xfsprogs", 655360)}
+MAKERS: Dict[str, Tuple[List[str], List[str], str, int]] = {"ext4": (["mkfs.ext4", "-q", "-F"], ["64512k"], "e2fsprogs", 131072),
+                                                            "xfs": (["mkfs.xfs", "-q", "-f", "-d", "size=319m"], [], "xfsprogs", 655360)}
 
 
 def made(room: str, system: str) -> str:

@@ -81,7 +81,8 @@ def refused(room: str) -> str:
     # the image of the disk that was pulled out is still its own
     written(room, "it.events", f"on first READ FPDMA QUEUED do unplug then plug another {image} then plug\n".encode())
     printed, said = run(["--image", image, "--script", script], ["named", "unanswered", "comreset", "named"], status=1)
-    expect(printed[-1] == "named: 00000001, 2048 sectors" and said == [f"ahci-hba: --image {image}: another server has it", f"ahci-hba: {image} can't be plugged in: there is no disk"], f"{printed}, {said}")
+    expect(printed[-1] == "named: 00000001, 2048 sectors"
+           and said == [f"ahci-hba: --image {image}: another server has it", f"ahci-hba: {image} can't be plugged in: there is no disk"], f"{printed}, {said}")
     return f"{len(cases) + 2} scripts"
 
 

@@ -185,7 +185,8 @@ def garbage(room: str) -> str:
 def wrong_peer(room: str) -> str:
     """A peer of the proxy that sends what no QEMU does, under the sanitizers: what is no message ends the run with status 1, and all else is answered."""
     ended, unknown = "the guest's program ended in the middle of a message", "QEMU sent a message of "
-    cases = [("sizes", 0, ""), ("short_file", 0, "(the guest's memory at [0-9a-f]+ of 1048576 bytes can't be used: Invalid argument ?)+"), ("shortened", 0, ""), ("full_pipe", 0, ""), ("past_the_end", 0, ""),
+    cases = [("sizes", 0, ""), ("short_file", 0, "(the guest's memory at [0-9a-f]+ of 1048576 bytes can't be used: Invalid argument ?)+"), ("shortened", 0, ""),
+             ("full_pipe", 0, ""), ("past_the_end", 0, ""),
              ("unknown", 1, unknown + "kind 99, which is not known here"), ("long", 1, unknown + "1048576 bytes, of which [0-9]+ are known here"), ("half", 1, ended), ("half_data", 1, ended)]
     for what, status, said in cases:
         words = [SANITIZED, "run", "--transport", "proxy", "--judge", "--sectors", "64", "--", PEER, what]
@@ -297,7 +298,8 @@ def written(room: str, options: List[str], words: List[str], status: int = 0, sa
 def rules(room: str) -> str:
     """--fail and --slow are about the commands that their conditions name: by number, direction and sector. Writes have 64 sectors, and fail at the first."""
     ended, taken = "a write failed\nahci-hba: the guest's program ended with status 1\n", 0
-    for number, (options, failures) in enumerate([(["--fail", "any:40,commands=3"], [128]), (["--fail", "70-127:04,writes"], [64]), (["--fail", "70:04:ever,reads"], []), (["--fail", "any:40,rate=1/1,seconds=90-99"], [])]):
+    for number, (options, failures) in enumerate([(["--fail", "any:40,commands=3"], [128]), (["--fail", "70-127:04,writes"], [64]),
+                                                  (["--fail", "70:04:ever,reads"], []), (["--fail", "any:40,rate=1/1,seconds=90-99"], [])]):
         folder = os.path.join(room, f"record{number}")
         written(room, ["--sectors", "256", "--record", folder, *options], ["1", "64", "256", "1", "-"], 1 if failures else 0, ended if failures else "")
         found = [it.lba for it in Record(folder).entries() if it.kind == FAIL]
@@ -353,7 +355,10 @@ def large(room: str) -> str:
     return f"{blocks} MiB of the image, {memory} MiB of memory"
 
 
-CHECKS = [Check(command_lines, title="Command lines"), Check(arguments, title="Arguments of QEMU"), Check(versions, title="Versions of QEMU"), Check(record, title="Record of Linux"), Check(garbage, title="Garbage"), Check(wrong_peer, title="A peer of the proxy that is wrong"),
-          Check(refused_memory, title="Refused memory"), Check(given_up, title="Memory that never comes"), Check(failed_reads, title="Reads that fail"), Check(killed_guest, title="A killed guest"), Check(unkept, title="A flush that can't be kept"),
-          Check(written_at_the_end, title="An image that is written at the end"), Check(full, title="Files that can't be written"), Check(rules, title="Rules"), Check(much_written, title="Much that is written"), Check(large, title="A disk of 2 TiB"),
+CHECKS = [Check(command_lines, title="Command lines"), Check(arguments, title="Arguments of QEMU"), Check(versions, title="Versions of QEMU"),
+          Check(record, title="Record of Linux"), Check(garbage, title="Garbage"), Check(wrong_peer, title="A peer of the proxy that is wrong"),
+          Check(refused_memory, title="Refused memory"), Check(given_up, title="Memory that never comes"), Check(failed_reads, title="Reads that fail"),
+          Check(killed_guest, title="A killed guest"), Check(unkept, title="A flush that can't be kept"),
+          Check(written_at_the_end, title="An image that is written at the end"), Check(full, title="Files that can't be written"), Check(rules, title="Rules"),
+          Check(much_written, title="Much that is written"), Check(large, title="A disk of 2 TiB"),
           Check(very_much_written, title="10 GiB that are written", is_long=True)]

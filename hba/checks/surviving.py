@@ -167,7 +167,8 @@ def outcome(room: str, folder: str, event: Event) -> Dict[str, Any]:
     serial = guest.serial()
     told = dict(re.findall(r"CHECK (\S+) ?(.*)$", serial, re.MULTILINE))
     summed = told.get("disk", "").split()
-    return {"hangs": hangs, "status": guest.process.returncode, "told": told, "same": not summed or summed[0] == digest(contents(last)), "bad": re.findall(f"^.*(?:{BAD}).*$", serial, re.MULTILINE)[:3],
+    return {"hangs": hangs, "status": guest.process.returncode, "told": told, "same": not summed or summed[0] == digest(contents(last)),
+            "bad": re.findall(f"^.*(?:{BAD}).*$", serial, re.MULTILINE)[:3],
             "says": lines_of(guest), "rules": judged["rules"], "recoveries": judged["recoveries"], "happened": "it never happened" not in guest.said(), "end": serial[-1500:]}
 
 
@@ -198,7 +199,8 @@ def look(event: Event, folder: str, came: Dict[str, Any]) -> str:
     expect("failed:" not in told and not came["bad"] and told.get("depth") == ("1" if event.is_alone else "32"), f"{where}: {told.get('failed:')}, {came['bad']}, depth {told.get('depth')}")
     expect(came["same"], f"{where}: the image is not the disk that Linux read last")
     errors, again = class_of(told["mixed"], event.wrong), class_of(told["again"])
-    expect((errors, again) == (event.errors, event.again), f"{where}: {errors} of the requests fail, and {again} later, not {event.errors} and {event.again}: {told['mixed']}; {told['again']}; {came['says'][:12]}")
+    expect((errors, again) == (event.errors, event.again),
+           f"{where}: {errors} of the requests fail, and {again} later, not {event.errors} and {event.again}: {told['mixed']}; {told['again']}; {came['says'][:12]}")
     expect(all(told.get(name) == text for name, text in event.told), f"{where}: the guest tells {told}, and not {event.told}")
     missing = [it for it in event.says if not any(re.search(it, line) for line in came["says"])]
     expect(not missing, f"{where}: Linux does not write {missing}, but {came['says'][:12]}")
