@@ -295,7 +295,7 @@ static void stores(uint32_t slot)
 {
     const struct command *it = &slots[slot];
     const bool trims = is_trim(it), is_bad = trims && leaves_disk(it);
-    const struct fis end = is_bad ? d2h(0x40, 0x41, 0x14, 0) : good();
+    const struct fis end = is_bad ? bad(it, 0x04, 0) : good();
     if (it->host_log && !it->pio)
         writes_pages(it);
     if (!trims && !it->host_log)

@@ -17,7 +17,8 @@ static struct range range_of(const struct command *it, uint32_t entry)
     return (struct range){ little(at, 6), (uint32_t)little(at + 6, 2) };
 }
 
-/* Whether an entry names a sector that is not on the disk. One with no sectors names none, whatever its LBA is. */
+/* Whether an entry names a sector that is not on the disk, for which the command is aborted: IDNF is of a command that is not (ACS-3, "ID NOT FOUND bit"). An entry with no
+   sectors names none, whatever its LBA is. */
 static bool leaves_disk(const struct command *it)
 {
     for (uint32_t entry = 0; entry < entries_of(it); entry++) {

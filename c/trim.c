@@ -5,7 +5,7 @@
 #include <string.h>
 
 enum { LIST = 0, AREA = 0x400, TABLE = 0x1000, DATA = 0x2000, BYTES = 0x3000, SECTORS = 8 }; /* places in the driver's memory, and the disk */
-enum { SUCCESS = 0x40, IDNF_ABRT = 0x1441 };                                                 /* PxTFD */
+enum { SUCCESS = 0x40, ABORTED = 0x0441 };                                                   /* PxTFD */
 enum { RZAT = 1 << 5, DRAT = 1 << 14 };                                                      /* word 69 of IDENTIFY DEVICE */
 enum { STANDBY = 0x00, ACTIVE_OR_IDLE = 0xFF };                                              /* the count of CHECK POWER MODE */
 
@@ -225,14 +225,14 @@ static void ranges_become_zeros(void)
     NEED(memcmp(memory + DATA, image + 2 * AHCI_SECTOR_BYTES, AHCI_SECTOR_BYTES) == 0);
 }
 
-/* Sector 8 is not on the disk, so sector 0 stays. */
+/* Sector 8 is not on the disk: the command is aborted, and sector 0 stays. */
 static void range_leaves_the_disk(void)
 {
     memset(memory + DATA, 0, 2 * AHCI_PAGE_BYTES);
     lay_range(0, 0, 1);
     lay_range(1, 7, 2);
     issue_trim();
-    ends(IDNF_ABRT);
+    ends(ABORTED);
     write_register(AHCI_REG_PXCMD, AHCI_PXCMD_FRE | AHCI_PXCMD_SUD);
     start();
 }
