@@ -198,7 +198,7 @@ READS = "requests 5000 compared 5000 errors 0 wrong 0"
 def interrupted(room: str, script: str, linux_says: Sequence[str]) -> Guest:
     """5,000 reads of Linux while a script of interrupts goes on: all come right."""
     guest = booting.troubled(room, "stall", ["--script", script_of(room, script), "--pick", "random"], [r"(lose|late|send)_interrupt.*", "an interrupt is lost"], linux_says)
-    expect(guest.told()["reads"] == READS, f"reads: {guest.told()['reads']}")
+    expect(guest.results()["reads"] == READS, f"reads: {guest.results()['reads']}")
     return guest
 
 

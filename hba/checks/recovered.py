@@ -57,7 +57,7 @@ class Case(NamedTuple):
     words: str                     # the driver's steps after the event
     states: Dict[str, str]         # of steps that aren't seen, or aren't asked for ("")
     requests: Dict[str, int]
-    told: str
+    received: str                  # what the memory of each request has
     also: Sequence[str] = ()
 
 
@@ -150,7 +150,7 @@ def judged(room: str, number: int, case: Case) -> None:
     requests = {name: times for name, times in found[0]["requests"].items() if times}
     expect(requests == case.requests, f"{where}: the requests are {requests}, and {case.requests} is right")
     expect(found[0]["also"] == list(case.also), f"{where}: also {found[0]['also']}, and {list(case.also)} is right")
-    expect(printed == case.told, f"{where}: the memory has {printed}, and {case.told} is right")
+    expect(printed == case.received, f"{where}: the memory has {printed}, and {case.received} is right")
     expect(f"\n{case.flow.event} " in said and "recovery from" in said, f"{where}: the table is {said}")
 
 

@@ -157,8 +157,8 @@ def record(room: str) -> str:
         file.write(images.numbered_blocks(512, 4096))
     guest = Guest(room, ["--image", image, "--fail", "1000:40", "--pick", "random", "--delay", "500"], linux(room, "record", pattern(65536, "record")), recorded=image)
     guest.end(240)
-    told = guest.told()
-    expect(told["reads"] == "requests 2000 compared 1999 errors 1 wrong 0", f"reads: {told['reads']}")
+    results = guest.results()
+    expect(results["reads"] == "requests 2000 compared 1999 errors 1 wrong 0", f"reads: {results['reads']}")
     expect(contents(image)[-65536:] == pattern(65536, "record"), "the image has not what Linux wrote")
     failures = [(it.flag, it.lba) for it in Record(guest.record_path).entries() if it.kind == FAIL]
     expect(failures == [(0x40, 1000)], f"the record has the failures {failures}")
@@ -206,10 +206,10 @@ def refused_memory(room: str) -> str:
     guest = Guest(room, ["--image", image], linux(room, "memory"), binary=STARVED)
     guest.end(240, said=f"{STARVES}\n")
     guest.linux_is_usual()
-    told = guest.told()
-    expect(bool(re.fullmatch(r"requests 4000 compared [1-9]\d* errors 0 wrong 0", told["small"])), f"small: {told['small']}")
-    expect(told["disk"].split()[0] == digest(contents(image)), "the image is not the disk that Linux read last")
-    return told["small"]
+    results = guest.results()
+    expect(bool(re.fullmatch(r"requests 4000 compared [1-9]\d* errors 0 wrong 0", results["small"])), f"small: {results['small']}")
+    expect(results["disk"].split()[0] == digest(contents(image)), "the image is not the disk that Linux read last")
+    return results["small"]
 
 
 def failed_reads(room: str) -> str:
@@ -258,7 +258,7 @@ def unkept(room: str) -> str:
     with open(new, "w", encoding="ascii") as file:
         file.write("kept")
     guest.end(240, status=1, said=f"(ahci-hba: --image {re.escape(image)}: it can't be written back: {re.escape(new)}: File exists; [0-9]+ pages have changed, and it is as it was\n)+")
-    expect(guest.told()["flush"] == "wrong", "Linux takes the write for kept")
+    expect(guest.results()["flush"] == "wrong", "Linux takes the write for kept")
     expect(contents(image) == before and contents(new) == b"kept", "the image has changed though it could not be written, or what was beside it")
     done = program("run", "--image", image, "--", "true")
     expect(done.returncode == 2 and f"{new} is in the way" in done.stderr, f"it starts beside {new}: {done.stderr}")
@@ -273,7 +273,7 @@ def written_at_the_end(room: str) -> str:
     guest.wait_for("^CHECK flush", 240)
     expect(contents(image) == before or guest.process.poll() is not None, "the image was written at a flush")
     guest.end(60)
-    expect(guest.told()["flush"] == "right", "the flush failed")
+    expect(guest.results()["flush"] == "right", "the flush failed")
     return "the flush is answered, the image is written at the end"
 
 

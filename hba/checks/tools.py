@@ -187,8 +187,8 @@ def pages_right(runs: Dict[str, Run]) -> None:
     """IDENTIFY DEVICE and the logs, by their bytes."""
     words = words_of(runs["words"].lines, r"[0-9a-f]+ +")
     for name, first, last, text in (("serial", 10, 19, SERIAL), ("firmware", 23, 26, FIRMWARE), ("model", 27, 46, MODEL)):
-        told = b"".join(it.to_bytes(2, "big") for it in words[first:last + 1])
-        expect(told == text.encode().ljust(2 * (last + 1 - first)), f"the {name} is {told!r}")
+        found = b"".join(it.to_bytes(2, "big") for it in words[first:last + 1])
+        expect(found == text.encode().ljust(2 * (last + 1 - first)), f"the {name} is {found!r}")
     counted = [sum(words[at + it] << 16 * it for it in range(count)) for at, count in ((60, 2), (100, 4))]
     expect(counted == [SECTORS, SECTORS] and words[217] == RPM, f"sectors {counted}, rotation rate {words[217]}")
     pages = {name: bytes_of(run) for name, run in runs.items() if name.startswith("log_")}
@@ -213,9 +213,9 @@ def sectors_right(runs: Dict[str, Run]) -> None:
     """A sector as hdparm reads it: one that was made bad is zeros once hdparm has written it."""
     wanted = [(name, DATA[:512] if name == "sector" else bytes(512)) for name in ("sector", "sector_next", "sector_again", "sector_zeroed")]
     for name, content in wanted:
-        told = b"".join(it.to_bytes(2, "big") for it in words_of(runs[name].lines, ""))
-        swapped = b"".join(told[it:it + 2][::-1] for it in range(0, 512, 2))
-        expect(content in (told, swapped), f"{name} is {told.hex()}")
+        found = b"".join(it.to_bytes(2, "big") for it in words_of(runs[name].lines, ""))
+        swapped = b"".join(found[it:it + 2][::-1] for it in range(0, 512, 2))
+        expect(content in (found, swapped), f"{name} is {found.hex()}")
 
 
 def trims_right(runs: Dict[str, Run]) -> str:
@@ -240,7 +240,7 @@ def performed(room: str, options: Sequence[str], sectors: int, says: Sequence[Tu
     guest = Guest(room, ["--image", blank(room, sectors), *options], linux(room, "tools", DATA, more=more))
     guest.end(600)
     guest.log_is_usual([r"fail \d+ with 40 at sector 1000, which is marked uncorrectable", r"the queue's journal of \d+ entries was handed out"])
-    guest.told()
+    guest.results()
     runs = runs_of(guest.serial())
     absent = [name for name, _ in says if name not in runs]
     expect(not absent, f"the runs {absent} have not ended")
