@@ -80,7 +80,7 @@ static void compare_range(uint32_t slot)
     const struct range due = slot < 32 && look.next[slot] == AHCI_STEP_EXECUTE ? range_due(slot) : no_range;
     const uint32_t status = ahci_hba_trim_range(&hba, slot, &found.lba, &found.sectors);
     CHECK(status == (slot > 31 ? AHCI_BAD_TAG : AHCI_OK));
-    CHECK(slot > 31 || (found.sectors == due.sectors && (!due.sectors || found.lba == due.lba)));
+    CHECK(slot > 31 ? found.lba == 77 && found.sectors == 77 : found.sectors == due.sectors && (!due.sectors || found.lba == due.lba));
 }
 
 /* Takes a step for which one of its requests for memory may be refused: whether it is taken. If not, nothing has changed. */
