@@ -1,6 +1,6 @@
 /* What the device does in a random run, each call with what the shadow says of it: bytes that are moved, steps that are taken or lack memory, commands that fail, FISes that no
    command asks for, and a journal that is trimmed. The bytes of the run choose. */
-#include "hba_shadow_answers.h"
+#include "hba_shadow_next.h"
 #include "refusing.h"
 
 static const uint8_t *input;

@@ -1,5 +1,6 @@
 /* What a sector may hold after a loss of power, as the shadow reads ACS-3 ("Volatile write cache", FLUSH CACHE): what it had when the last flush was carried out, or the
-   bytes of a write that was completed since or is outstanding, or zeros if it was trimmed since. Included by hba_shadow_commands.h, which names the journal's entries one after the other. */
+   bytes of a write that was completed since or is outstanding, or zeros if it was trimmed since. hba_shadow_commands.h names the journal's entries one after the other. */
+#include "hba_shadow_registers.h"
 
 #define CHANCES 4096u
 
