@@ -41,25 +41,38 @@ static void is_freed(void)
     CHECK(ahci_hba_plug(&hba) == AHCI_NO_PORT && ahci_hba_fail_interface(&hba, AHCI_INTERFACE_CRC, 1) == AHCI_NO_PORT && entries == 77);
 }
 
+/* One thing that comes. A calm run has mostly those that get commands done. */
+static void goes_on(bool is_calm)
+{
+    static void (*const calm[])(void) = { command, command, command, command, step_any, step_any, step_any, step_any, step_any, step_any, step_any, step_any,
+        move_all, move_all, move_all, move_all, move_all, move_one, sign, sign, restart_if_halted, restart_if_halted, lose_power };
+    static void (*const others[])(void) = { move_one, step_this, fail, refuse, end, send, restart, reset, power_cycle, write_any, read_any, trim, scribble, pause, event, event };
+    const uint32_t calm_ones = sizeof calm / sizeof *calm, pick = byte() % (calm_ones + sizeof others / sizeof *others);
+    if (pick < calm_ones || (is_calm && byte() % 8))
+        calm[pick % calm_ones]();
+    else
+        others[pick - calm_ones]();
+}
+
 int LLVMFuzzerTestOneInput(const uint8_t *bytes, size_t count);
 int LLVMFuzzerTestOneInput(const uint8_t *bytes, size_t count)
 {
-    static void (*const calls[])(void) = { command, command, command, command, step_any, step_any, step_any, step_any, step_any, step_any, step_any, step_any,
-        move_all, move_all, move_all, move_all, move_all, move_one, move_one, step_this, fail, refuse, end, send, sign, sign, restart_if_halted, restart_if_halted,
-        restart, reset, power_cycle, write_any, read_any, trim, scribble, pause, event, event, lose_power };
     uint8_t sector[AHCI_SECTOR_BYTES];
     input = bytes;
     left = count;
     can = capabilities();
     depth = byte() % 2 ? 32 : 1 + byte() % 32;
+    const bool is_calm = byte() % 2;
+    is_about_trim = byte() % 2;
     has_logged = false;
     begin();
+    follow(0); /* a journal begins */
     set_trim();
     if (byte() % 16)
         start();
     while (left) {
         compare();
-        calls[byte() % (sizeof calls / sizeof *calls)]();
+        goes_on(is_calm);
         if (is_lost()) {
             compare();
             try_link();
@@ -94,10 +107,12 @@ static void prints_counts(unsigned long runs)
         counted.overlapped);
     printf("%lu TRIMs ended behind several such ranges, %lu were cut off behind some, %lu had sectors past the end, and %lu only advised\n", counted.several, counted.cut,
         counted.outside, counted.advised);
+    printf("%lu times such a range ended Standby; ", counted.woken);
     printf("%lu steps lacked memory, %lu of which make sectors zeros\n", counted.lacked, counted.lacked_zeros);
     printf("after a loss of power a sector might have had some bytes %lu times, and %lu times not\n", counted.left, counted.lost_bytes);
     printf("%lu commands came under queued ones and aborted them, and %lu queued ones failed with ICRC\n", counted.mixed, counted.icrc);
     printf("%lu commands ended with another status, %lu signatures were not a disk's, and %lu FISes came that no command asks for\n", counted.ended, counted.foreign, counted.unasked);
+    fflush(stdout);
 }
 
 /* Bytes by a generator of 64 bits (xorshift), which begins anew with each run. */

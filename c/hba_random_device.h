@@ -83,7 +83,7 @@ static void compare_range(uint32_t slot)
     CHECK(slot > 31 ? found.lba == 77 && found.sectors == 77 : found.sectors == due.sectors && (!due.sectors || found.lba == due.lba));
 }
 
-/* Takes a step for which one of its requests for memory may be refused: whether it is taken. If not, nothing has changed. */
+/* Takes a step, of which a request for memory may be refused: whether it is taken. One that lacks memory has changed nothing; but one may do with less. */
 static bool is_stepped(uint32_t slot, uint32_t next, uint64_t *entries)
 {
     ahci_state before, after;
@@ -91,12 +91,12 @@ static bool is_stepped(uint32_t slot, uint32_t next, uint64_t *entries)
     asked = 0;
     refused_at = byte() % 16 ? -1 : byte() % 3;
     const uint32_t status = ahci_hba_step(&hba, slot, entries);
-    const bool lacks = refused_at >= 0 && asked > refused_at;
+    const bool refused = refused_at >= 0 && asked > refused_at, lacks = refused && next != AHCI_STEP_NONE && status == AHCI_OUT_OF_MEMORY;
     refused_at = -1;
-    CHECK(status == (slot > 31 ? AHCI_BAD_TAG : next == AHCI_STEP_NONE ? AHCI_NOT_READY : lacks ? AHCI_OUT_OF_MEMORY : AHCI_OK));
+    CHECK(lacks || status == (slot > 31 ? AHCI_BAD_TAG : next == AHCI_STEP_NONE ? AHCI_NOT_READY : AHCI_OK));
     if (lacks) {
         counted.lacked++;
-        counted.lacked_zeros += look.next[slot] == AHCI_STEP_EXECUTE && range_due(slot).sectors;
+        counted.lacked_zeros += next == AHCI_STEP_EXECUTE && range_due(slot).sectors;
         CHECK(*entries == 0 && ahci_hba_port(&hba, &after) == AHCI_OK && memcmp(&before, &after, sizeof before) == 0);
         compare_image();
     }
@@ -285,6 +285,6 @@ static void trim(void)
     CHECK(memcmp(&before, &after, sizeof before) == 0 && memcmp(&was, &look, sizeof was) == 0);
     for (uint32_t at = 0; at < 0x50; at++)
         CHECK(words[at] == driven(4 * at));
-    compare_image();
     follow(busy ? 0 : entries);
+    compare_image();
 }

@@ -93,7 +93,7 @@ static struct { bool on, begun; uint32_t slot, sectors, past, per_block; struct 
 
 static struct {
     unsigned long done, halts, dropped, trims, blocks, long_blocks, spilled, stuck, partial, deep, slept, lost, found, pulled, other, tries, broken, ended, foreign, unasked, stored,
-        left, lost_bytes, mixed, icrc, spoiled, unread, mended, told, logged, reread, advised, outside, zeroed, overlapped, far, several, cut, lacked, lacked_zeros;
+        left, lost_bytes, mixed, icrc, spoiled, unread, mended, told, logged, reread, advised, outside, zeroed, overlapped, far, several, cut, lacked, lacked_zeros, woken;
 } counted;
 
 static uint8_t *memory(uint64_t at, uint64_t count)

@@ -64,6 +64,7 @@ static void makes_zeros(struct command *it, struct range range)
     counted.zeroed++;
     counted.overlapped += overlaps(it, range);
     counted.far += entry >= RANGES_OF_BLOCK;
+    counted.woken += power == STANDBY;
     zeroed = range;
     turns_sectors(range.lba, range.lba + range.sectors, false);
     power = ACTIVE;

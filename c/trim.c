@@ -94,9 +94,10 @@ static uint32_t read_register(uint32_t offset)
 /* The port is initialised (AHCI 1.3.1, section 10.1.2), or starts again after an error. */
 static void start(void)
 {
-    write_register(AHCI_REG_PXCMD, AHCI_PXCMD_FRE | AHCI_PXCMD_SUD);
     write_register(AHCI_REG_PXCLB, LIST);
     write_register(AHCI_REG_PXFB, AREA);
+    write_register(AHCI_REG_PXCMD, AHCI_PXCMD_FRE | AHCI_PXCMD_SUD);
+    NEED(read_register(AHCI_REG_PXCLB) == LIST && read_register(AHCI_REG_PXFB) == AREA);
     until(AHCI_STEP_NONE);
     write_register(AHCI_REG_PXIS, 0xFFFFFFFF);
     write_register(AHCI_REG_PXSERR, 0xFFFFFFFF);
