@@ -1,5 +1,5 @@
-/* The answers of the shadow's disk: its FISes, which bytes are written and when, and what is next of each slot. */
-#include "hba_shadow_settings.h"
+/* The answers of the shadow's disk: its FISes, and which bytes are written and when. */
+#include "hba_shadow_trim.h"
 
 /* ---- the device's FISes ---- */
 
@@ -207,6 +207,7 @@ static void ends_alone(uint32_t slot, uint8_t status, uint8_t error, uint64_t lb
     mixes(slot, status, error);
     is_ended(status, error);
     struct command *it = &slots[slot];
+    counted.cut += it->ranges != 0;
     const uint64_t data = it->kind == READ ? comes_before(it, lba) : 0;
     const struct fis fis = at_lba(it, status, error, it->kind == WRITE ? it->lba : lba);
     it->there = false;
@@ -251,7 +252,7 @@ static struct fis answer_to(const struct command *it)
         if (!it->sectors)
             return bad(it, 4, 0);
         if (!is_past(it))
-            turns_sectors(it, true);
+            turns_sectors(it->lba, end_of(it), true);
         return is_past(it) ? bad(it, 0x10, first_past(it)) : fis;
     case 0x40: case 0x42: return is_past(it) ? bad(it, 0x10, first_past(it)) : fis;
     case 0xF8: case 0x27: return at_lba(it, 0x40, 0, has - 1);
@@ -288,16 +289,19 @@ static void turns_by(const struct command *it)
     }
 }
 
-/* The disk takes data that are no sectors: its buffer, ranges that are trimmed, which changes nothing, or pages of a log of the host's, by PIO once the last block has come. */
+/* The disk takes data that are no sectors: its buffer; the entries of a TRIM, whose sectors are zeros by now or stay as they are; or pages of a log of the host's, by PIO once the
+   last block has come. */
 static void stores(uint32_t slot)
 {
     const struct command *it = &slots[slot];
-    const bool trims = it->fis[2] == 0x06, is_bad = trims && leaves_disk(it);
-    const struct fis end = is_bad ? d2h(0x40, 0x41, 0x04, 0) : good();
+    const bool trims = is_trim(it), is_bad = trims && leaves_disk(it);
+    const struct fis end = is_bad ? bad(it, 0x04, 0) : good();
     if (it->host_log && !it->pio)
         writes_pages(it);
     if (!trims && !it->host_log)
         memcpy(disk.buffer, it->bytes, AHCI_PAGE_BYTES);
+    if (trims)
+        counts_trim(it, is_bad);
     counted.stored++;
     if (it->pio)
         begins(slot, it->moved, end);
@@ -305,12 +309,20 @@ static void stores(uint32_t slot)
         answers(slot, no_fis, 0, it->moved, true, end);
 }
 
-/* A command for which the queue moves no sectors is carried out, or aborted. */
+/* The sectors that the next step of a slot makes zeros, if that carries a command out. */
+static struct range range_due(uint32_t slot) { return is_aborted(slot) ? no_range : next_range(&slots[slot]); }
+
+/* A command for which the queue moves no sectors is carried out, or aborted. A TRIM that makes sectors zeros takes a step for each range, and then one that ends it. */
 static void executes(uint32_t slot)
 {
     struct command *it = &slots[slot];
     const bool aborted = is_aborted(slot);
+    const struct range range = range_due(slot);
     uint64_t lba;
+    if (range.sectors) {
+        makes_zeros(it, range);
+        return;
+    }
     if (aborted)
         mixes(slot, 0x41, 4);
     it->there = false;
@@ -385,70 +397,4 @@ static void written(uint64_t count)
     }
     if (is_over())
         ends();
-}
-
-/* ---- what is next of each slot ---- */
-
-/* The controller may take a step with its list; the device may move, which it doesn't in Sleep. */
-static bool is_listening(void) { return reg.on && !reg.halted && reg.link == UP && !fetch.on && !answer.on && !transfer.on; }
-static bool is_ready(void) { return is_listening() && reg.receiving && soft == OFF && power != SLEEP; }
-
-static bool waits(uint32_t slot) { return reg.ci >> slot & 1 && !slots[slot].there; }
-
-/* The slot to issue from next (AHCI 1.3.1, section 3.3.7, CCS): from the one behind CCS on, the first whose command waits. 32: none, or not now. */
-static uint32_t next_slot(void)
-{
-    if (!is_listening() || is_busy_with_one())
-        return 32;
-    for (uint32_t slot = 0; slot < 32; slot++)
-        if (slots[slot].there && !slots[slot].queued)
-            return 32;
-    for (uint32_t i = 0; i < can.ncs; i++)
-        if (waits((reg.first + i) % can.ncs))
-            return (reg.first + i) % can.ncs;
-    return 32;
-}
-
-/* The next step of a slot (docs/LAYOUTS.md, "The controller's commands"); `issued` is the one to issue from next. */
-static uint32_t next_step(uint32_t slot, uint32_t issued)
-{
-    const struct command *it = &slots[slot];
-    const bool moves = it->kind == QUEUE || it->kind == READ || it->kind == WRITE;
-    uint64_t lba;
-    if (transfer.on && slot == transfer.slot)
-        return reg.on && !reg.halted && reg.receiving && !answer.on ? AHCI_STEP_DELIVER : AHCI_STEP_NONE;
-    if (it->there && it->kind == CONTROL)
-        return is_listening() ? AHCI_STEP_CONTROL : AHCI_STEP_NONE;
-    if (slot == issued)
-        return AHCI_STEP_FETCH;
-    if (!it->there || !is_ready())
-        return AHCI_STEP_NONE;
-    if (it->sent)
-        return it->accepted ? AHCI_STEP_SERVE : AHCI_STEP_ACCEPT;
-    if (it->error_log && failed && !is_aborted(slot))
-        return AHCI_STEP_RECOVER;
-    if (it->kind == QUEUE)
-        return failed || mixed ? AHCI_STEP_EXECUTE : AHCI_STEP_SEND;
-    return moves && !is_aborted(slot) && !is_past(it) && !meets_unreadable(it, &lba) ? AHCI_STEP_SEND : AHCI_STEP_EXECUTE;
-}
-
-/* All that the shadow knows, beside what is there. */
-static void compare(void)
-{
-    CHECK(driven(AHCI_REG_PXCLB) == reg.clb && driven(AHCI_REG_PXCLBU) == reg.clbu && driven(AHCI_REG_PXFB) == reg.fb && driven(AHCI_REG_PXFBU) == reg.fbu);
-    CHECK(driven(AHCI_REG_PXIE) == reg.ie && driven(AHCI_REG_PXSCTL) == reg.sctl && driven(AHCI_REG_GHC) == (0x80000000u | reg.enabled << 1));
-    CHECK(driven(AHCI_REG_PXCMD) == (4u | (reg.sud ? AHCI_PXCMD_SUD : 0) | (reg.on ? 0x8001u | reg.ccs << 8 : 0) | (reg.receiving ? 0x4010u : 0) | reg.lights));
-    CHECK(driven(AHCI_REG_PXSSTS) == (reg.link == UP ? 0x103u + (reg.speed << 4) : reg.link == OFFLINE ? 4u : 0));
-    CHECK(driven(AHCI_REG_PXSACT) == reg.sact);
-    CHECK(driven(AHCI_REG_PXCI) == reg.ci);
-    CHECK(driven(AHCI_REG_PXTFD) == reg.tfd);
-    CHECK(driven(AHCI_REG_PXIS) == interrupts());
-    CHECK(driven(AHCI_REG_IS) == reg.pending && driven(AHCI_REG_PXSERR) == reg.serr && driven(AHCI_REG_PXSIG) == reg.sig);
-    CHECK(ahci_hba_look(&hba, &look) == AHCI_OK && look.depth == depth);
-    CHECK(look.interrupt == (reg.enabled && reg.pending));
-    CHECK(look.want == (uint32_t)(fetch.on ? AHCI_WANT_READ : answer.on ? AHCI_WANT_WRITE : AHCI_WANT_NOTHING));
-    CHECK(look.sign == (signature_moves() && !fetch.on && !answer.on && !transfer.on));
-    const uint32_t issued = next_slot();
-    for (uint32_t slot = 0; slot < 32; slot++)
-        CHECK(look.next[slot] == next_step(slot, issued));
 }

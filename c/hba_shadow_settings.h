@@ -1,4 +1,4 @@
-/* What SET FEATURES, SET MULTIPLE MODE, SMART and DATA SET MANAGEMENT do in the disk of the shadow (ACS-3, by the titles of subcommands). */
+/* What SET FEATURES, SET MULTIPLE MODE and SMART do in the disk of the shadow (ACS-3, by the titles of subcommands). */
 #include "hba_shadow_commands.h"
 
 /* A transfer mode of SET FEATURES that the page of IDENTIFY DEVICE has: PIO default, PIO 0 to 4; multiword DMA 0 to 2, Ultra DMA 0 to 5, of which one is selected. */
@@ -58,15 +58,4 @@ static bool is_smart(const struct command *it)
     case 0xDA: return true;
     default: return false;
     }
-}
-
-/* Whether a range of DATA SET MANAGEMENT has a sector that is not on the disk. */
-static bool leaves_disk(const struct command *it)
-{
-    for (uint64_t at = 0; at < it->moved && at < KEPT; at += 8) {
-        const uint64_t lba = little(it->bytes + at, 6), count = little(it->bytes + at + 6, 2);
-        if (count && lba + count > has)
-            return true;
-    }
-    return false;
 }

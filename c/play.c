@@ -2,11 +2,9 @@
    exit status is 1 at a line that is not understood or stands where it may not, and 3 where memory is refused. After each
    command the port's whole state is compared with what single calls answer, and at the end its journal is looked at: the exit
    status is 4 where they differ. */
+#include "play_tokens.h"
 #include "ahci.h"
 #include <inttypes.h>
-#include <stdio.h>
-#include <stdlib.h>
-#include <string.h>
 
 #define MOST_LINE 4096
 static ahci_port port = AHCI_PORT_EMPTY;
@@ -15,7 +13,6 @@ static uint64_t entries; /* since the port was made or trimmed */
 static uint64_t first;   /* the number of the first of them */
 static uint8_t *bytes;   /* room for the longest command's sectors */
 static size_t room;
-static unsigned line_number;
 
 static const char *name_of(uint32_t status)
 {
@@ -34,24 +31,6 @@ static const char *name_of(uint32_t status)
         if (names[i].status == status)
             return names[i].name;
     return NULL;
-}
-
-static void lost(void)
-{
-    fprintf(stderr, "play: line %u: not understood\n", line_number);
-    fflush(stdout);
-    exit(1);
-}
-
-/* Whether a line is empty or a comment. A comment's bytes are below 128, as in all lines. */
-static bool is_skipped(const char *line)
-{
-    if (*line != '#')
-        return !*line;
-    for (; *line; line++)
-        if ((unsigned char)*line > 127)
-            lost();
-    return true;
 }
 
 /* Two calls have answered differently about one port. */
@@ -82,57 +61,6 @@ static bool done(uint32_t status)
         differs("a status has another name");
     printf("refused %s\n", name);
     return false;
-}
-
-static uint64_t number(const char *word, uint64_t most)
-{
-    uint64_t value = 0;
-    if (!*word || strlen(word) > 20)
-        lost();
-    for (; *word; word++) {
-        if (*word < '0' || *word > '9' || value > (UINT64_MAX - (uint64_t)(*word - '0')) / 10)
-            lost();
-        value = 10 * value + (uint64_t)(*word - '0');
-    }
-    if (value > most)
-        lost();
-    return value;
-}
-
-static unsigned digit(char c)
-{
-    if (c >= '0' && c <= '9') return (unsigned)(c - '0');
-    if (c >= 'a' && c <= 'f') return (unsigned)(c - 'a') + 10;
-    if (c >= 'A' && c <= 'F') return (unsigned)(c - 'A') + 10;
-    lost();
-    return 0;
-}
-
-static uint32_t hexadecimal(const char *word, size_t most)
-{
-    uint32_t value = 0;
-    if (!*word || strlen(word) > most)
-        lost();
-    for (; *word; word++)
-        value = value << 4 | digit(*word);
-    return value;
-}
-
-static uint8_t byte_of(const char *word)
-{
-    if (strlen(word) != 2)
-        lost();
-    return (uint8_t)hexadecimal(word, 2);
-}
-
-static size_t hex_bytes(const char *word, uint8_t *to)
-{
-    size_t n = strlen(word);
-    if (!n || n % 2)
-        lost();
-    for (size_t i = 0; i < n / 2; i++)
-        to[i] = (uint8_t)(digit(word[2 * i]) << 4 | digit(word[2 * i + 1]));
-    return n / 2;
 }
 
 static void *filled(uint64_t sectors, uint8_t fill)

@@ -1,33 +1,10 @@
 /* Each request for memory of a short story is refused in turn: each call that may want memory says so, has changed nothing, and
    succeeds later; and what is left at the end is freed. A call that takes no memory succeeds while every request is refused, and
-   asks for none. It is linked with --wrap=malloc and --wrap=realloc. */
+   asks for none. */
 #include "ahci.h"
+#include "refusing.h"
 #include <stdio.h>
-#include <stdlib.h>
 #include <string.h>
-
-void *__real_malloc(size_t bytes);
-void *__real_realloc(void *block, size_t bytes);
-void *__wrap_malloc(size_t bytes);
-void *__wrap_realloc(void *block, size_t bytes);
-
-static long asked, refused_at = -1;
-static bool refuses_all, was_asked; /* while a call runs that takes no memory */
-
-static bool refuses(void)
-{
-    if (refuses_all)
-        was_asked = true;
-    return refuses_all || asked++ == refused_at;
-}
-void *__wrap_malloc(size_t bytes) { return refuses() ? NULL : __real_malloc(bytes); }
-void *__wrap_realloc(void *block, size_t bytes) { return refuses() ? NULL : __real_realloc(block, bytes); }
-
-static void wrong(const char *call, const char *what)
-{
-    printf("request %ld refused: %s: %s\n", refused_at, call, what);
-    exit(1);
-}
 
 /* All that can be seen of a port, and zeros of an empty place. */
 static ahci_state seen(ahci_port *port)
@@ -55,17 +32,6 @@ static bool differs(ahci_state before, ahci_state after) { return memcmp(&before
     } \
     if (s != AHCI_OK) \
         wrong(#call, "it is not done"); \
-} while (0)
-
-/* Makes a call that takes no memory. */
-#define NONE(call) do { \
-    refuses_all = true; \
-    uint32_t s = (call); \
-    refuses_all = false; \
-    if (s != AHCI_OK) \
-        wrong(#call, "it is not done without memory"); \
-    if (was_asked) \
-        wrong(#call, "it asks for memory"); \
 } while (0)
 
 static uint8_t image[8 * AHCI_SECTOR_BYTES], data[AHCI_SECTOR_BYTES], got[AHCI_SECTOR_BYTES], page[AHCI_PAGE_BYTES];
@@ -285,8 +251,8 @@ static int controlled(void)
     ahci_hba hba = AHCI_HBA_EMPTY;
     ahci_port none = AHCI_PORT_EMPTY;
     ahci_identity named = { .rotation = 1 };
-    uint64_t entries;
-    uint32_t enabled;
+    uint64_t entries, lba;
+    uint32_t enabled, sectors;
     int lacking = 0;
     memset(&named, ' ', sizeof named - sizeof named.rotation);
     TRY(&none, image, ahci_hba_new(&hba, image, sizeof image, 32));
@@ -299,6 +265,8 @@ static int controlled(void)
     NONE(ahci_hba_identity(&hba, &named));
     NONE(ahci_hba_write_cache(&hba, 1));
     NONE(ahci_hba_write_cache_enabled(&hba, &enabled));
+    NONE(ahci_hba_trim_zeros(&hba, 1));
+    NONE(ahci_hba_trim_range(&hba, 0, &lba, &sectors));
     NONE(ahci_hba_unplug(&hba, &entries));
     lacking += exchanged(&hba, &named);
     NONE(ahci_hba_copy(&hba, 8, got, sizeof got));
@@ -350,14 +318,6 @@ static int story(void)
 int main(void)
 {
     lay_out();
-    if (story() != 0)
-        wrong("the story", "memory was refused that was there");
-    long all = asked;
-    for (refused_at = 0; refused_at < all; refused_at++) {
-        asked = 0;
-        if (story() != 1)
-            wrong("the story", "not one call lacked memory");
-    }
-    printf("%ld requests for memory, each refused in turn: nothing lost\n", all);
+    printf("%ld requests for memory, each refused in turn: nothing lost\n", refuse_each(story));
     return 0;
 }

@@ -346,7 +346,8 @@ static enum asked check_script(char **words) {
 }
 
 enum asked settings_read(struct settings *settings, int count, char **words) {
-    *settings = (struct settings){.hold = {.longest = 2000, .gap = 300, .most = 16}, .depth = AHCI_MOST_TAGS, .capabilities = AHCI_HBA_USUAL, .identity = identity_usual(), .seed = 1, .judge_from = 1, .sync = SYNC_FLUSH};
+    *settings = (struct settings){.hold = {.longest = 2000, .gap = 300, .most = 16}, .depth = AHCI_MOST_TAGS, .capabilities = AHCI_HBA_USUAL,
+                                  .identity = identity_usual(), .seed = 1, .judge_from = 1, .sync = SYNC_FLUSH};
     static struct script script;
     settings->script = &script;
     mapped_begin(&settings->mapped);

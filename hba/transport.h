@@ -18,7 +18,7 @@ struct transport {
     void *it;
     unsigned (*watch)(void *it, struct pollfd *files);         /* fills in up to MOST_WATCHED files, and returns how many */
     enum found (*serve)(void *it, const struct pollfd *files); /* takes what is there by these files, one message at most */
-    enum found (*look)(void *it); /* takes one message if there is one, without waiting; NULL if only `serve` can tell whether there is */
+    enum found (*look)(void *it); /* takes one message if there is one, without waiting; NULL if only `serve` can find out whether there is */
 };
 
 #endif

@@ -11,11 +11,13 @@ const struct event_row event_rows[EVENT_KINDS] = {
     [EVENT_LATE_INTERRUPT] = {"late_interrupt", ARGUMENT_TIME, SERVER_HBA, SCOPE_EITHER, "the next interrupt comes so much later", "10.7.2"},
     [EVENT_SEND_INTERRUPT] = {"send_interrupt", ARGUMENT_NONE, SERVER_HBA, SCOPE_CONTROLLER, "an interrupt comes that has no cause", "10.7.2"},
     [EVENT_POWER_ON] = {"power_on", ARGUMENT_NONE, SERVER_HBA, SCOPE_CONTROLLER, "the controller's registers are as after power-on, and its commands are dropped", "10.1.2"},
-    [EVENT_POWER_LOSS] = {"power_loss", ARGUMENT_SEED, SERVER_HBA, SCOPE_CONTROLLER, "the disk loses its power and has it again: unflushed writes are kept or lost, and the registers are as after power-on", "10.1.2"},
+    [EVENT_POWER_LOSS] = {"power_loss", ARGUMENT_SEED, SERVER_HBA, SCOPE_CONTROLLER,
+                          "the disk loses its power and has it again: unflushed writes are kept or lost, and the registers are as after power-on", "10.1.2"},
     [EVENT_LOSE_LINK] = {"lose_link", ARGUMENT_NONE, SERVER_HBA, SCOPE_CONTROLLER, "the link is lost: PRCS, and the disk drops its commands", "7"},
     [EVENT_FIND_LINK] = {"find_link", ARGUMENT_NONE, SERVER_HBA, SCOPE_CONTROLLER, "the disk makes itself known by COMINIT: PCS, and its signature comes", "6.2.2.3"},
     [EVENT_UNPLUG] = {"unplug", ARGUMENT_NONE, SERVER_HBA, SCOPE_CONTROLLER, "the disk is pulled out: PRCS, and nothing brings the link up", "7"},
-    [EVENT_PLUG] = {"plug", ARGUMENT_DISK, SERVER_HBA, SCOPE_CONTROLLER, "the disk is plugged in again, with the sectors that it had, or another one, with those of FILE or none: PCS, and its signature comes", "7"},
+    [EVENT_PLUG] = {"plug", ARGUMENT_DISK, SERVER_HBA, SCOPE_CONTROLLER,
+                    "the disk is plugged in again, with the sectors that it had, or another one, with those of FILE or none: PCS, and its signature comes", "7"},
     [EVENT_DECODE_ERROR] = {"decode_error", ARGUMENT_NONE, SERVER_HBA, SCOPE_CONTROLLER, "a character that can't be decoded was received, and the FIS is sent again: INFS, DIAG.B", "6.1.2"},
     [EVENT_FATAL_DECODE_ERROR] = {"fatal_decode_error", ARGUMENT_NONE, SERVER_HBA, SCOPE_CONTROLLER, "a character that can't be decoded was received: IFS, DIAG.B, and the port halts", "6.1.2"},
     [EVENT_CRC_ERROR] = {"crc_error", ARGUMENT_NONE, SERVER_HBA, SCOPE_CONTROLLER, "a FIS was received whose CRC is wrong, and the FIS is sent again: INFS, DIAG.C", "6.1.2"},
@@ -46,7 +48,9 @@ const struct event_row event_rows[EVENT_KINDS] = {
 };
 
 const char *event_arguments(enum event_kind kind) {
-    static const char *const texts[] = {[ARGUMENT_NONE] = "", [ARGUMENT_ERROR] = "EE", [ARGUMENT_STATUS] = "SS", [ARGUMENT_DELAY] = "TIME[+JITTER]", [ARGUMENT_TIME] = "TIME", [ARGUMENT_SEED] = "[seed N]", [ARGUMENT_DISK] = "[another [FILE]]"};
+    static const char *const texts[] = {[ARGUMENT_NONE] = "", [ARGUMENT_ERROR] = "EE", [ARGUMENT_STATUS] = "SS",
+                                        [ARGUMENT_DELAY] = "TIME[+JITTER]", [ARGUMENT_TIME] = "TIME",
+                                        [ARGUMENT_SEED] = "[seed N]", [ARGUMENT_DISK] = "[another [FILE]]"};
     return texts[event_rows[kind].argument];
 }
 

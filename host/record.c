@@ -292,7 +292,8 @@ int record_begin(struct record *record, const char *folder, uint64_t limit, cons
         return 0;
     int has = mkdir(folder, 0777) && errno != EEXIST ? -1 : content_of(folder);
     if (has == CONTENT_RECORD || has == CONTENT_FILES) {
-        say_of("record", folder, has == CONTENT_RECORD ? "the folder has a record already; remove it, or name another folder" : "the folder has other files; name an empty one, or one that isn't there");
+        say_of("record", folder, has == CONTENT_RECORD ? "the folder has a record already; remove it, or name another folder"
+                                                       : "the folder has other files; name an empty one, or one that isn't there");
         return -1;
     }
     if (has == CONTENT_NONE && !take_memory(record) && !begin_part(record))

@@ -209,6 +209,38 @@ with Hba(bytes(512), depth=32) as hba:  # what names the disk, and its write cac
     assert hba.write_cache_enabled
     hba.write_cache(False)
     assert not hba.write_cache_enabled
+memory = bytearray(0x10000)
+with Hba(b"\x11" * 512 * 8, depth=32) as hba:  # a TRIM makes sectors zeros, those of one range in each step, or only advises
+    hba.write(PXCLB, LIST)
+    hba.write(PXFB, RECEIVED)
+    hba.write(PXCMD, 0x10)
+    hba.run(memory)
+    hba.write(PXCMD, 0x11)
+    hba.trim_zeros(True)
+    memory[DATA:DATA + 512] = struct.pack("<QQQ", 1 << 48 | 2, 7, 2 << 48 | 5).ljust(512, b"\0")
+    lay(memory, 0, bytes([0x27, 0x80, 0x06, 1, 0, 0, 0, 0x40, 0, 0, 0, 0, 1]), 512, True)
+    issue(hba, 0, False)
+    until(hba, memory, 0, Step.EXECUTE)
+    for zeros in ((2, 1), (5, 2)):
+        number = hba.port().next
+        assert hba.trim_range(0) == zeros and hba.step(0) == 0 and hba.entry(number) == ahci.Entry(*zeros, ahci.Event.ZERO, 0, 0)
+    assert hba.trim_range(0) is None and hba.port().next == number + 1
+    hba.run(memory)
+    assert (hba.read(PXTFD), hba.read(PXCI)) == (0x40, 0) and [hba.copy(lba)[511] for lba in range(8)] == [0x11, 0x11, 0, 0x11, 0x11, 0, 0, 0x11]
+    hba.trim_zeros(False)
+    memory[DATA:DATA + 8] = struct.pack("<Q", 1 << 48 | 3)
+    issue(hba, 0, False)
+    until(hba, memory, 0, Step.EXECUTE)
+    assert hba.trim_range(0) is None
+    hba.run(memory)
+    assert hba.read(PXTFD) == 0x40 and hba.copy(3) == b"\x11" * 512 and hba.port().next == number + 1
+    refused(ahci.Status.BAD_TAG, lambda: hba.trim_range(32))
+    for supported, high, low in ((False, 0x0C, 0x00), (True, 0x4C, 0x20)):  # word 69 of IDENTIFY DEVICE: DRAT and RZAT
+        hba.trim_zeros(supported)
+        lay(memory, 0, bytes([0x27, 0x80, 0xEC]), 512, False)
+        issue(hba, 0, False)
+        hba.run(memory)
+        assert (memory[DATA + 139], memory[DATA + 138]) == (high, low)
 with Hba(bytes(512), depth=32) as hba:  # PxFB is no memory: HBFS, and no second signature before the driver's next write
     hba.write(PXFB, 0x100000)
     hba.write(PXCMD, 0x10)

@@ -86,7 +86,8 @@ class CheckHeader(unittest.TestCase):
 
     def test_the_place_of_a_port_is_compared(self) -> None:
         changes = [(HEADER, "    bool full;\n    bool stopped;\n", "    bool stopped;\n    bool full;\n"), (HEADER, "    uint32_t announced;", "    uint64_t announced;"),
-                   (HEADER, "typedef struct ahci_port {\n    void *at;\n", "typedef struct ahci_port {\n"), (PLACE, "    announced: u32,", "    announced: u64,"), (PLACE, "    held: Held,", "    held: u64,"),
+                   (HEADER, "typedef struct ahci_port {\n    void *at;\n", "typedef struct ahci_port {\n"),
+                   (PLACE, "    announced: u32,", "    announced: u64,"), (PLACE, "    held: Held,", "    held: u64,"),
                    (PLACE, "    stopped: bool,", "    stopped: bool,\n    more: bool,")]
         for change in changes:
             self.setUp()

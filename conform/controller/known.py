@@ -9,7 +9,8 @@ from judge.known import ListFault, bytes_in, checked, pattern
 
 from .compare import Difference
 
-CHOICES = {"standard": "the standard's, and the emulator does otherwise", "open": "the standard leaves it open", "undefined": "the standard says nothing of what then happens", "model": "the standard's, and the model does otherwise"}
+CHOICES = {"standard": "the standard's, and the emulator does otherwise", "open": "the standard leaves it open",
+           "undefined": "the standard says nothing of what then happens", "model": "the standard's, and the model does otherwise"}
 
 
 class Cover(NamedTuple):

@@ -113,6 +113,7 @@ def table(all_of: Iterable[Played]) -> Iterator[str]:
         for one in it.broken:
             yield f"{one.program}, {one.operation}: the model breaks the rule: {one.rule} (AHCI 1.3.1, section {section_of(f'model: {one.rule}')})"
     seconds = time.monotonic() - begun
-    rows = (("programs on the model alone", f"{programs:,}"), ("operations", f"{operations:,}"), ("under AddressSanitizer", "yes" if sanitized() else "no"), ("rules that the model breaks", f"{broken:,}"),
+    rows = (("programs on the model alone", f"{programs:,}"), ("operations", f"{operations:,}"), ("under AddressSanitizer", "yes" if sanitized() else "no"),
+            ("rules that the model breaks", f"{broken:,}"),
             ("seconds", f"{seconds:.1f}"), ("operations a second", f"{operations / max(seconds, 0.001):,.0f}"))
     yield from ("| Alone | |", "|---|---|", *(f"| {name} | {value} |" for name, value in rows))

@@ -134,7 +134,8 @@ def state_facts(it: Moment) -> Set[str]:
     before, after = it.was_model.reg(layout.PX_CMD) & layout.ST, it.model.reg(layout.PX_CMD) & layout.ST
     found = {"started" if before else "stopped"}
     for name, holds in (
-        ("starts", after > before), ("stops", after < before), ("link down", it.model.reg(layout.PX_SSTS) & 15 != 3), ("signature", "sign" in it.log or signs(it.was, it.emulator) or signs(it.was_model, it.model)),
+        ("starts", after > before), ("stops", after < before), ("link down", it.model.reg(layout.PX_SSTS) & 15 != 3),
+        ("signature", "sign" in it.log or signs(it.was, it.emulator) or signs(it.was_model, it.model)),
         ("unsigned", it.model.reg(layout.PX_SIG) == layout.ONES), ("old error", it.was.reg(layout.PX_TFD) & layout.ERR), ("resets", isinstance(it.op, Write) and written_to(it.op, layout.GHC) & 1),
         ("model fails", fails(it.was_model, it.model)), ("emulator fails", fails(it.was, it.emulator)),
         ("model waits", it.model.reg(layout.PX_TFD) & (layout.BSY | layout.DRQ)), ("busy", is_busy(it)),

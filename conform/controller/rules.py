@@ -42,7 +42,8 @@ RULES: Tuple[Rule, ...] = (
     # ST, CCS
     rule(STOP, alone.RULES[STOP].section, "PxSACT, PxCI", when="stops"),
     rule(STOP, alone.RULES[STOP].section, "PxCMD", 0x1F00, "stops"),
-    rule("nothing comes of a command that was dropped with ST", "3.3.7, 10.3.2", "PxIS, PxTFD, PxCI, PxSACT, data, disk, PRDBC, D2H Register FIS, Set Device Bits FIS, DMA Setup FIS", when="go, nothing left"),
+    rule("nothing comes of a command that was dropped with ST", "3.3.7, 10.3.2",
+         "PxIS, PxTFD, PxCI, PxSACT, data, disk, PRDBC, D2H Register FIS, Set Device Bits FIS, DMA Setup FIS", when="go, nothing left"),
     rule("after an error no command is issued until ST is cleared", "6.2.2", "PxCMD", 0x1F00, "several, model fails"),
     rule("commands are issued from the slot behind CCS on", "3.3.7", "PxCMD", 0x1F00, "several"),
     rule("CCS is the slot of the command that was issued last", "3.3.7", "PxCMD", 0x1F00),

@@ -245,8 +245,10 @@ _RULES: Dict[Type[Server], str] = {
     NoCurrentSlot: "CCS is the slot of the command that was issued last", NotRunning: "CR is 1 while the list runs, FR while FISes are received", NeverBusy: "BSY is 1 while a command is under way",
     NoErrorByte: "PxTFD has the status and the error of the last FIS", NoSignature: "PxSIG has the signature, and FFFFFFFFh until it comes", NoPhyChange: "DIAG.X is set by COMINIT, DIAG.N by PhyRdy",
     NoDhrs: "DHRS is set by a D2H Register FIS with I", ActiveIsIssued: "PxSACT keeps a tag until a Set Device Bits FIS names it", NoCommunication: "DET, SPD and IPM of PxSSTS show the link as it is",
-    HalfOfEnable: "PxIE is what software writes", BytesAreWords: "an access writes the bytes that it has, and no others", StatusIsAWord: "bits of PxIS are cleared by a 1 that is written, and set by events alone",
-    ResetClearsBases: "GHC.HR leaves PxCLB and PxFB", StopsNever: "ST, FRE, SUD and POD are what software writes", RegisterFisBehind: _PLACE, HalfOfBitsFis: _PLACE, NoDmaSetup: _PLACE, NoCount: _COUNT,
+    HalfOfEnable: "PxIE is what software writes", BytesAreWords: "an access writes the bytes that it has, and no others",
+    StatusIsAWord: "bits of PxIS are cleared by a 1 that is written, and set by events alone",
+    ResetClearsBases: "GHC.HR leaves PxCLB and PxFB", StopsNever: "ST, FRE, SUD and POD are what software writes", RegisterFisBehind: _PLACE,
+    HalfOfBitsFis: _PLACE, NoDmaSetup: _PLACE, NoCount: _COUNT,
     CountOfSectors: _COUNT, WritesBehindData: "data go where the PRDT says, and nowhere else", LineWithoutGlobalEnable: _LINE, LineNever: _LINE,
 }
 FAULTS: List[Fault] = [Fault(it.__name__, (it.__doc__ or "").strip(), it, places, _RULES[it]) for it, places in _PLACES.items()]

@@ -120,7 +120,8 @@ def _command(line: Line) -> Op:
     for name in ("table", "fis"):
         if name not in found:
             raise TextFault(f"a command has no '{name}'")
-    return Command(at, found["table"], found["fis"], found.get("data", ()), found.get("flags", 5), found.get("entries"), found.get("prdbc", 0), found.get("reserved", bytes(16)))  # type: ignore[arg-type]
+    return Command(at, found["table"], found["fis"], found.get("data", ()), found.get("flags", 5),  # type: ignore[arg-type]
+                   found.get("entries"), found.get("prdbc", 0), found.get("reserved", bytes(16)))  # type: ignore[arg-type]
 
 
 def _member(name: str, line: Line) -> object:

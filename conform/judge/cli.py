@@ -70,7 +70,8 @@ def words() -> Words:
     made.add_argument("--known", metavar="FILE", help="the list of known differences, or `none` (default: the emulator's own)")
     made.add_argument("--base", metavar="FILE", help="the list of what any port may do otherwise, or `none` (default: conform/any_port.json; none with --shown and --without)")
     made.add_argument("--without", metavar="NAME", help="leave this entry out of the list, so that it is reported as a new difference")
-    made.add_argument("--pieces", choices=("plain", "scattered", "both"), help="where data lie: as in the model, in many pieces, or now one and now the other (default: both for --seed, plain for SCRIPT)")
+    made.add_argument("--pieces", choices=("plain", "scattered", "both"),
+                      help="where data lie: as in the model, in many pieces, or now one and now the other (default: both for --seed, plain for SCRIPT)")
     made.add_argument("--pieces-seed", metavar="N", type=int, help="the seed of the pieces (default: that of the script, 1 for SCRIPT)")
     made.add_argument("--draft-list", metavar="FILE", help="go on past every difference, and write a first list of them to this file")
     made.add_argument("--fault", metavar="NAME", help="plant this fault in the stand-in; `list` names them")

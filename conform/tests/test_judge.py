@@ -78,7 +78,8 @@ class Whole(unittest.TestCase):
 class Reports(unittest.TestCase):
     def test_a_difference_is_told_with_its_line_its_bits_and_the_trace(self) -> None:
         text = "\n".join(differences_text(run(named("no_sdbs"))))
-        for part in ("queue, line 19: fail 1 40 7 (PxIS)", "PxIS  (AHCI 1.3.1, section 3.3.5 (an I beside ERR))", "rule      a choice of the model", "expected  40000008  SDBS, TFES", "got       40000000  TFES",
+        for part in ("queue, line 19: fail 1 40 7 (PxIS)", "PxIS  (AHCI 1.3.1, section 3.3.5 (an I beside ERR))", "rule      a choice of the model",
+                     "expected  40000008  SDBS, TFES", "got       40000000  TFES",
                      "differs   SDBS", ">    19  fail 1 40 7"):
             self.assertIn(part, text)
 

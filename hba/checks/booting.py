@@ -81,7 +81,7 @@ def boot(room: str, firmware: Sequence[str]) -> str:
     guest.end(240)
     guest.log_is_usual()
     guest.linux_is_usual([r"sda: sda1"])
-    expect(guest.told()["disk"].split()[0] == digest(before), "Linux has read another disk than the one that it came from")
+    expect(guest.results()["disk"].split()[0] == digest(before), "Linux has read another disk than the one that it came from")
     expect(contents(image) == before, "the image has changed, and nobody wrote")
     return counted(guest.codes())
 
@@ -116,8 +116,8 @@ def uboot_right(room: str, words: Sequence[str]) -> str:
     guest.log_is_usual()
     written = b"\x5a" * (2 * SECTOR)
     sums = [zlib.crc32(it) for it in (file_in(image, "large.bin"), before[2048 * SECTOR:3072 * SECTOR], written)]
-    told = [int(it, 16) for it in re.findall(r"^crc32 for .* ==> ([0-9a-f]{8})$", guest.serial(), re.MULTILINE)]
-    expect(told == sums, f"U-Boot's sums are {told}, not {sums}: {guest.serial()[-800:]}")
+    printed = [int(it, 16) for it in re.findall(r"^crc32 for .* ==> ([0-9a-f]{8})$", guest.serial(), re.MULTILINE)]
+    expect(printed == sums, f"U-Boot's sums are {printed}, not {sums}: {guest.serial()[-800:]}")
     before[32 * SECTOR:34 * SECTOR] = written
     expect(contents(image) == before, "the image is not what U-Boot wrote")
     return "sums right, 2 sectors written; commands " + counted(guest.codes())
@@ -132,12 +132,12 @@ def uboot(room: str) -> str:
 
 
 def files_right(room: str, guest: Guest, image: str, data: bytes) -> None:
-    told = guest.told()
+    results = guest.results()
     for name in ("first", "second"):
-        expect(told[name].split()[0] == digest(data), f"Linux read back another /{name}")
+        expect(results[name].split()[0] == digest(data), f"Linux read back another /{name}")
         expect(file_of_ext4(room, image, name) == data, f"the image has another /{name}")
-    expect(told["many"] == "200", f"Linux read back {told['many']} of 200 files")
-    expect(told["disk"].split()[0] == digest(contents(image)), "the image is not the disk that Linux read last")
+    expect(results["many"] == "200", f"Linux read back {results['many']} of 200 files")
+    expect(results["disk"].split()[0] == digest(contents(image)), "the image is not the disk that Linux read last")
 
 
 def linux_files(room: str, memory: str = "512M", options: Sequence[str] = (), machine: Sequence[str] = (), said: str = "", depth: str = "32",
@@ -149,7 +149,7 @@ def linux_files(room: str, memory: str = "512M", options: Sequence[str] = (), ma
     guest.log_is_usual()
     guest.linux_is_usual(more)
     files_right(room, guest, image, data)
-    expect(guest.told()["depth"] == depth, f"the queue's depth is not {depth}")
+    expect(guest.results()["depth"] == depth, f"the queue's depth is not {depth}")
     return counted(guest.codes())
 
 
@@ -214,7 +214,7 @@ def linux_small(room: str) -> str:
 def linux_staggered(room: str) -> str:
     """The disk waits until Linux sets PxCMD.SUD."""
     guest = linux_with(room, "sss=1", "SATA link up 3.0 Gbps (SStatus 123 SControl 300)", [r"ahci 0000:00:..\.0: (flags: 64bit ncq stag clo only pio|SSS flag set, parallel bus scan disabled)"])
-    expect(guest.told()["depth"] == "32", "the queue's depth is not 32")
+    expect(guest.results()["depth"] == "32", "the queue's depth is not 32")
     return counted(guest.codes())
 
 
@@ -239,13 +239,13 @@ def linux_two(room: str) -> str:
 
 
 def queue_right(guest: Guest, image: str) -> str:
-    """What guests/queue.sh told is right."""
-    told = guest.told()
-    expect(told["depth"] == "32", "the queue's depth is not 32")
+    """What guests/queue.sh has printed is right."""
+    results = guest.results()
+    expect(results["depth"] == "32", "the queue's depth is not 32")
     for name in ("small", "large", "alone"):
-        expect(bool(re.fullmatch(r"requests \d+ compared [1-9]\d* errors 0 wrong 0", told[name])), f"{name}: {told[name]}")
-    expect(told["disk"].split()[0] == digest(contents(image)), "the image is not the disk that Linux read last")
-    return f"{told['small']}; {told['large']}"
+        expect(bool(re.fullmatch(r"requests \d+ compared [1-9]\d* errors 0 wrong 0", results[name])), f"{name}: {results[name]}")
+    expect(results["disk"].split()[0] == digest(contents(image)), "the image is not the disk that Linux read last")
+    return f"{results['small']}; {results['large']}"
 
 
 def deepest(guest: Guest) -> int:
@@ -284,10 +284,10 @@ def linux_error(room: str) -> str:
     guest.end(240)
     guest.log_is_usual([FAILS_1000, r"the queue's journal of \d+ entries was handed out"])
     guest.linux_is_usual([*ENDED, *MEDIUM])
-    told = guest.told()
-    expect(told["reads"] == "requests 5000 compared 4999 errors 1 wrong 0", f"reads: {told['reads']}")
-    expect(told["again"] == "512", "the sector can't be read afterwards")
-    expect(told["depth"] == "32", "NCQ was given up")
+    results = guest.results()
+    expect(results["reads"] == "requests 5000 compared 4999 errors 1 wrong 0", f"reads: {results['reads']}")
+    expect(results["again"] == "512", "the sector can't be read afterwards")
+    expect(results["depth"] == "32", "NCQ was given up")
     expect(contents(image) == before, "the image has changed, and nobody wrote")
     logs = sum(guest.codes().get(code, 0) for code in (0x2F, 0x47))  # READ LOG EXT, READ LOG DMA EXT
     expect(logs == 1, f"the log of the failed command was not read once: {counted(guest.codes())}")
@@ -309,12 +309,12 @@ def troubled(room: str, test: str, options: Sequence[str], logged: Sequence[str]
 def linux_lasting(room: str) -> str:
     """A sector fails always: so do its requests, and all others come right."""
     guest = troubled(room, "lasting", ["--fail", "1000:40:1000000"], [FAILS_1000], [*ENDED, *MEDIUM])
-    told = guest.told()
-    reads = re.fullmatch(r"requests 5000 compared (\d+) errors ([1-9]\d*) wrong 0", told["reads"])
+    results = guest.results()
+    reads = re.fullmatch(r"requests 5000 compared (\d+) errors ([1-9]\d*) wrong 0", results["reads"])
     if not reads:
-        raise Failed(f"reads: {told['reads']}")
-    expect(int(reads[1]) + int(reads[2]) == 5000, f"reads: {told['reads']}")
-    expect((told["first"], told["again"], told["beside"]) == ("0", "0", "512"), f"first, again and beside: {told}")
+        raise Failed(f"reads: {results['reads']}")
+    expect(int(reads[1]) + int(reads[2]) == 5000, f"reads: {results['reads']}")
+    expect((results["first"], results["again"], results["beside"]) == ("0", "0", "512"), f"first, again and beside: {results}")
     return f"{reads[2]} of 5,000 reads failed, {reads[1]} right"
 
 
@@ -337,14 +337,14 @@ def linux_merged(room: str) -> str:
     rules = [word for _, sector in failing for word in ("--fail", f"{sector}:40:1")]
     guest = Guest(room, ["--image", image, *rules], linux(room, "merged"), recorded=image)
     guest.end(120)
-    told = guest.told()
+    results = guest.results()
     are_merged(guest)
-    answers = ", ".join(f"{name} {told[name]}" for name in MERGED)
+    answers = ", ".join(f"{name} {results[name]}" for name in MERGED)
     for name, (_, block, named) in MERGED.items():
         form = "r{4}" if named is None else "(?=.*e)[re]{4}" if named == 0 else "r{3}e"
-        expect(bool(re.fullmatch(form, told[name])), f"right (r), wrong (w) or failed (e): {answers}")
+        expect(bool(re.fullmatch(form, results[name])), f"right (r), wrong (w) or failed (e): {answers}")
         for it in range(4):
-            if "write" in name and told[name][it] == "r":
+            if "write" in name and results[name][it] == "r":
                 wanted[4096 * (block + it):4096 * (block + it + 1)] = images.block_text(block + it, 2, 4096)
     expect(contents(image) == wanted, f"the image is not what was answered: {answers}")
     guest.log_is_usual([r"the queue's journal of \d+ entries was handed out", *(rf"fail \d+ with 40 at sector {named}, by the rule for {sector}" for named, sector in failing)])
@@ -372,11 +372,11 @@ def commands(guest: Guest) -> List[Tuple[int, int, int]]:
 
 
 def linux_refused_log(room: str) -> str:
-    """A command of the queue fails, and the log that would tell which can't be read: Linux asks all again, and loses none."""
+    """A command of the queue fails, and the log that names it can't be read: Linux asks all again, and loses none."""
     says = [r"ata1: failed to read log page 10h \(errno=-5\)", r"ata1\.00: (Read log 0x10 page 0x00 failed, Emask 0x1|revalidation failed \(errno=-2\))", r"ata1: hard resetting link"]
     guest = troubled(room, "error", ["--fail", "1000:40", "--refuse-log"], [FAILS_1000, r"the log is refused to \d+"], [*ENDED, *says])
-    told = guest.told()
-    expect(told["reads"] == "requests 5000 compared 5000 errors 0 wrong 0", f"reads: {told['reads']}")
+    results = guest.results()
+    expect(results["reads"] == "requests 5000 compared 5000 errors 0 wrong 0", f"reads: {results['reads']}")
     expect(any(line.startswith("the log is refused") for line in guest.log()), "the log was not asked for")
     return "5,000 reads right"
 
@@ -385,8 +385,8 @@ def linux_stalled(room: str) -> str:
     """A command of the queue is never answered: Linux resets the link, asks all again, and loses none. The device picks at random, since by
     the lowest slot others wait for longer than Linux does."""
     guest = troubled(room, "stall", ["--stall", "1000", "--pick", "random"], [r"stall \d+ at sector 1000"], [*ENDED, r"ata1: hard resetting link"])
-    told = guest.told()
-    expect(told["reads"] == "requests 5000 compared 5000 errors 0 wrong 0", f"reads: {told['reads']}")
+    results = guest.results()
+    expect(results["reads"] == "requests 5000 compared 5000 errors 0 wrong 0", f"reads: {results['reads']}")
     expect(any(line.startswith("stall ") for line in guest.log()), "no command was stalled")
     expect(bool(re.search(r"ata1: hard resetting link", guest.serial())), "Linux has not reset the link")
     return "5,000 reads right after a reset of the link"
@@ -398,14 +398,14 @@ def linux_reset(room: str) -> str:
     guest = Guest(room, ["--image", image, "--delay", "200"], linux(room, "reset"))
     guest.end(240)
     guest.log_is_usual([r"the queue's journal of \d+ entries was handed out"])
-    told = guest.told()
+    results = guest.results()
     first, _, rest = guest.serial().partition("CHECK first done\n")
     _, reset, second = rest.partition("reboot: machine restart\n")
     expect(bool(reset), "the machine was not reset")
     # between the two it may warn of a command that is done when its port is frozen already (ata_pci_shutdown_one)
     guest.linux_is_usual(text=first)
     guest.linux_is_usual(text=second)
-    expect(bool(re.fullmatch(r"requests 2000 compared [1-9]\d* errors 0 wrong 0", told["again"])), f"again: {told['again']}")
+    expect(bool(re.fullmatch(r"requests 2000 compared [1-9]\d* errors 0 wrong 0", results["again"])), f"again: {results['again']}")
     return "the second boot finds what the first one wrote"
 
 
@@ -463,11 +463,16 @@ def user_mode_linux(room: str) -> str:
     raise Skipped("the machine was too busy in four runs: a read took more than 40 ms")
 
 
-CHECKS = [Check(sector, title="SeaBIOS and a boot sector"), Check(sector_error, title="SeaBIOS and an error"), Check(grub_bios, title="GRUB on BIOS"), Check(grub_uefi, title="GRUB on UEFI"), Check(uboot, title="U-Boot"),
+CHECKS = [Check(sector, title="SeaBIOS and a boot sector"), Check(sector_error, title="SeaBIOS and an error"), Check(grub_bios, title="GRUB on BIOS"),
+          Check(grub_uefi, title="GRUB on UEFI"), Check(uboot, title="U-Boot"),
           Check(boot_bios, title="GRUB boots Linux on BIOS", is_long=True), Check(boot_uefi, title="GRUB boots Linux on UEFI"), Check(linux_files, title="Linux, files"),
-          Check(linux_large, title="Linux, a larger disk", is_long=True), Check(linux_alone, title="Linux, without firmware's driver", is_long=True), Check(linux_shallow, title="Linux, a short queue"),
-          Check(linux_high, title="Linux, memory above 4 GiB"), Check(linux_small, title="Linux, few capabilities"), Check(linux_staggered, title="Linux, staggered spin-up", is_long=True), Check(linux_queue, title="Linux, queue", is_long=True), Check(linux_error, title="Linux, an error in the queue"),
-          Check(linux_lasting, title="Linux, a lasting error", is_long=True), Check(linux_merged, title="Linux, merged requests over a failing sector"), Check(linux_refused_log, title="Linux, a log that is refused", is_long=True),
+          Check(linux_large, title="Linux, a larger disk", is_long=True), Check(linux_alone, title="Linux, without firmware's driver", is_long=True),
+          Check(linux_shallow, title="Linux, a short queue"),
+          Check(linux_high, title="Linux, memory above 4 GiB"), Check(linux_small, title="Linux, few capabilities"),
+          Check(linux_staggered, title="Linux, staggered spin-up", is_long=True), Check(linux_queue, title="Linux, queue", is_long=True),
+          Check(linux_error, title="Linux, an error in the queue"),
+          Check(linux_lasting, title="Linux, a lasting error", is_long=True), Check(linux_merged, title="Linux, merged requests over a failing sector"),
+          Check(linux_refused_log, title="Linux, a log that is refused", is_long=True),
           Check(linux_stalled, title="Linux, a command without an answer"), Check(linux_two, title="Linux, two processors", is_long=True),
           Check(linux_reset, title="Linux, a reset of the machine"), Check(linux_flush, title="Linux, flushes and a kill"),
           Check(user_mode_linux, title="User Mode Linux", is_long=True, is_alone=True)]  # its reads wait 40 ms at most

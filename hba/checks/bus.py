@@ -165,7 +165,7 @@ class Guest:
             self.memory.append(mmap.mmap(file, BYTES))
 
     def give_memory(self) -> None:
-        """Tells the program where the guest's memory is."""
+        """Sends the program where the guest's memory is."""
         self.way.give_memory(self.files)
 
     def ask(self, *accesses: Access) -> int:

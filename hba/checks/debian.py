@@ -6,7 +6,7 @@ import subprocess
 from typing import List
 
 import images
-from harness import Guest, qemu, told_by, way_of
+from harness import Guest, qemu, results_of, way_of
 from images import program
 import pace
 from suite import Check, Skipped, expect
@@ -44,13 +44,13 @@ def debian(room: str) -> str:
     guest = Guest(room, ["--image", mine], qemu(room, *words, memory="1G"))
     guest.end(900)
     guest.linux_is_usual([r"(Kernel c|C)ommand line: root=/dev/sda .*", r"EXT4-fs \(sda\): re-mounted\. Quota mode: none\."])
-    told = guest.told()
+    results = guest.results()
     expect(guest.serial().count(LOGIN) == 2, f"there were {guest.serial().count(LOGIN)} logins, not 2")
-    expect(told["first"] == told["second"] == "Hello, world!; 9592 primes", f"the package and the program say {told}")
+    expect(results["first"] == results["second"] == "Hello, world!; 9592 primes", f"the package and the program say {results}")
     is_sound(mine)
     by_qemu(room, other, words)
-    expect(told_by(f"{room}/other") == told, f"on QEMU's own disk: {told_by(f'{room}/other')}, and not {told}")
-    return f"{told['files']} files, the same as on QEMU's own disk"
+    expect(results_of(f"{room}/other") == results, f"on QEMU's own disk: {results_of(f'{room}/other')}, and not {results}")
+    return f"{results['files']} files, the same as on QEMU's own disk"
 
 
 CHECKS = [Check(debian, title="Debian, from a disk of 2 GiB", is_long=True)]

@@ -77,8 +77,8 @@ def did(name: str, event: str) -> str:
     return str(came["did"]) if came else ""
 
 
-def told(name: str, script: str, what: str) -> str:
-    """What a kernel's guest has told under a script; nothing if it has not."""
+def result_of(name: str, script: str, what: str) -> str:
+    """What a kernel's guest has printed of a check under a script; nothing if it has not."""
     return str(runs_of(name)[script].get(what, ""))
 
 
@@ -99,7 +99,7 @@ FINDINGS: Sequence[Finding] = (
             "The first IDENTIFY DEVICE is aborted. Linux takes the port for one without a device: it makes no other try, and writes no line about it, so that a "
             "disk that is not ready for a moment is gone until somebody has the port looked at again. One that stays busy instead is found after the time-out of "
             "five seconds (`identify_stays_busy.events`).",
-            "on first IDENTIFY DEVICE do fail 04", lambda: both(lambda it: not told(it, "identify_fails.events", "mixed") and not runs_of(it)["identify_fails.events"]["says"])),
+            "on first IDENTIFY DEVICE do fail 04", lambda: both(lambda it: not result_of(it, "identify_fails.events", "mixed") and not runs_of(it)["identify_fails.events"]["says"])),
     Finding("Linux takes a read that was cut short, and one that ended with a device fault, for right",
             "Without a queue. In the first script the disk answers a read by DF without ERR and moves nothing; in the second one it answers without an error and "
             "moves only the sectors before 1000, as PRDBC says. The port does not halt, since ERR is 0 (section 5.3, RegFIS:Entry), and Linux looks neither at DF "
@@ -109,12 +109,12 @@ FINDINGS: Sequence[Finding] = (
     Finding("Linux repeats a flush that failed, and reports the second one alone",
             "The first flush is aborted. Linux sends it again, which succeeds, and fsync() returns 0: nobody is told that what was written before the first one may "
             "not be on the medium (ACS-3, FLUSH CACHE).",
-            "on first FLUSH CACHE do fail 04", lambda: both(lambda it: told(it, "an_aborted_flush.events", "flush") == "right" and bool(runs_of(it)["an_aborted_flush.events"]["recoveries"]))),
+            "on first FLUSH CACHE do fail 04", lambda: both(lambda it: result_of(it, "an_aborted_flush.events", "flush") == "right" and bool(runs_of(it)["an_aborted_flush.events"]["recoveries"]))),
     Finding("Linux starts a port that has lost its registers with a command list at address 0",
             "The controller is as after power-on in the midst of requests, as after a reset that nobody told Linux of. After a COMRESET Linux sets ST, and neither "
             "FRE nor PxCLB and PxFB before it (section 10.1.2). The controller then takes headers of commands from address 0 of memory, as the rules "
             "`ReservedHeader` and `FisLength` show, and would write where such headers say. Linux gives the disk up in the end.",
-            "on 1000th any do power_on", lambda: both(lambda it: told(it, "power_is_lost.events", "again") == "no disk" and "ListNotGiven" in runs_of(it)["power_is_lost.events"]["broken"])),
+            "on 1000th any do power_on", lambda: both(lambda it: result_of(it, "power_is_lost.events", "again") == "no disk" and "ListNotGiven" in runs_of(it)["power_is_lost.events"]["broken"])),
     Finding("SeaBIOS never starts a port again that was halted by something else than a failed command",
             "After a CRC error that stops the port (IFS), memory that is not there (HBFS), a read that is never answered, or a disk that was out for a moment, INT "
             "13h fails after 32 seconds. SeaBIOS clears ST in none of these cases (section 6.2.2.1), so each later request fails as well, 32 seconds later: one "

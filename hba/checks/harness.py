@@ -112,7 +112,7 @@ def serial_of(path: str) -> str:
     return re.sub(r"\x1b\[[0-9;?=]*[A-Za-z]", "", text).replace("\r", "")
 
 
-def told_by(path: str) -> Dict[str, str]:
+def results_of(path: str) -> Dict[str, str]:
     """A guest's lines `CHECK NAME TEXT`."""
     found = re.findall(r"CHECK (\S+) ?(.*)$", serial_of(path), re.MULTILINE)
     for name, text in found:
@@ -177,8 +177,8 @@ class Guest:
         if JUDGED and self.process.returncode == BROKE_A_RULE:
             return
         expect(self.process.returncode == status, f"status {self.process.returncode}, not {status}: {self.said()[-1500:]}{self.serial()[-1000:]}")
-        told = re.sub(r"qemu-system-\w+: terminating on signal 15 from pid \d+ \(.*\)\n", "", self.said()) if how else self.said()
-        expect(bool(JUDGED) or bool(re.fullmatch(said, told, re.DOTALL)), f"it said: {told}")
+        printed = re.sub(r"qemu-system-\w+: terminating on signal 15 from pid \d+ \(.*\)\n", "", self.said()) if how else self.said()
+        expect(bool(JUDGED) or bool(re.fullmatch(said, printed, re.DOTALL)), f"it said: {printed}")
         if self.recorded:
             self.has_recorded = makes(self.record_path, self.recorded, self.room)
 
@@ -196,9 +196,9 @@ class Guest:
         strange = [line for line in lines if re.search(r"\bata\d|\bahci \d|\bsd[a ]|scsi|EXT4|I/O error|blk_|Buffer", line) and not forms.fullmatch(line)]
         expect(not strange, "Linux says what nobody expects: " + "; ".join(strange[:8]))
 
-    def told(self) -> Dict[str, str]:
+    def results(self) -> Dict[str, str]:
         """The guest's lines `CHECK NAME TEXT`."""
-        return told_by(self.serial_path)
+        return results_of(self.serial_path)
 
     def child(self) -> int:
         """The process of the guest's program."""

@@ -166,7 +166,8 @@ def unwritten(room: str) -> str:
 # ---- file systems
 
 # the command that makes a file system, what it says after the image's name, its package, and the disk's sectors: the last MiB is not the file system's
-MAKERS: Dict[str, Tuple[List[str], List[str], str, int]] = {"ext4": (["mkfs.ext4", "-q", "-F"], ["64512k"], "e2fsprogs", 131072), "xfs": (["mkfs.xfs", "-q", "-f", "-d", "size=319m"], [], "xfsprogs", 655360)}
+MAKERS: Dict[str, Tuple[List[str], List[str], str, int]] = {"ext4": (["mkfs.ext4", "-q", "-F"], ["64512k"], "e2fsprogs", 131072),
+                                                            "xfs": (["mkfs.xfs", "-q", "-f", "-d", "size=319m"], [], "xfsprogs", 655360)}
 
 
 def made(room: str, system: str) -> str:
@@ -209,7 +210,7 @@ def boots(times: int) -> str:
 
 
 def filled(room: str, system: str, times: int, seed: int, binary: str = PROGRAM) -> List[Round]:
-    """What Linux tells of a file system through so many losses. From each to the next the image is as it has left it, and is looked at as well."""
+    """What Linux reports of a file system through so many losses. From each to the next the image is as it has left it, and is looked at as well."""
     image, last = made(room, system), MAKERS[system][3] - 8
     script = script_of(room, f"on every read sectors {last}-{last + 7} do power_loss seed {seed}")
     options = ["--image", image, "--sync", "end", "--write-cache", "--script", script, "--record", os.path.join(room, "record")]

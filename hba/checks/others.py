@@ -81,25 +81,26 @@ def refused(room: str) -> str:
     # the image of the disk that was pulled out is still its own
     written(room, "it.events", f"on first READ FPDMA QUEUED do unplug then plug another {image} then plug\n".encode())
     printed, said = run(["--image", image, "--script", script], ["named", "unanswered", "comreset", "named"], status=1)
-    expect(printed[-1] == "named: 00000001, 2048 sectors" and said == [f"ahci-hba: --image {image}: another server has it", f"ahci-hba: {image} can't be plugged in: there is no disk"], f"{printed}, {said}")
+    expect(printed[-1] == "named: 00000001, 2048 sectors"
+           and said == [f"ahci-hba: --image {image}: another server has it", f"ahci-hba: {image} can't be plugged in: there is no disk"], f"{printed}, {said}")
     return f"{len(cases) + 2} scripts"
 
 
 def linux_exchanged(room: str) -> str:
-    """Linux reads and writes in a full queue when its disk is pulled out and another one plugged in: it finds another serial number, its user is told of each request that fails, and no
+    """Linux reads and writes in a full queue when its disk is pulled out and another one plugged in: it finds another serial number, its user sees each request that fails, and no
     write for the first disk comes to the second one."""
     image, other, record = booting.numbered(room), written(room, "other.img", images.pattern(1 << 21, "other")), os.path.join(room, "record")
     before = contents(other)
     script = written(room, "it.events", f"on every READ FPDMA QUEUED do slow 20ms\non 1000th any do unplug then wait 2s then plug another {other}\n".encode())
     guest = Guest(room, ["--image", image, "--script", script, "--record", record, "--delay", "2000", "--pick", "random"], linux(room, "other"))
     guest.end(300)
-    told = guest.told()
-    expect((told.get("first"), told.get("second")) == ("00000001", "00000002"), f"the serial numbers are {told.get('first')} and {told.get('second')}: {guest.serial()[-1500:]}")
-    found = re.fullmatch(r"requests \d+ compared \d+ errors (\d+) wrong (\d+)", told.get("mixed", ""))
-    expect(bool(found) and found is not None and int(found[1]) > 0 and found[2] == "0", f"of the first disk's requests: {told.get('mixed')}")
-    expect(told["found"].split()[0] == digest(before), "the second disk isn't as it was plugged in")
-    expect(bool(re.fullmatch(r"requests 800 compared \d+ errors 0 wrong 0", told["again"])), f"of the second disk's requests: {told['again']}")
-    expect(told["disk"].split()[0] == digest(contents(other)), "the second image isn't the disk that Linux read last")
+    results = guest.results()
+    expect((results.get("first"), results.get("second")) == ("00000001", "00000002"), f"the serial numbers are {results.get('first')} and {results.get('second')}: {guest.serial()[-1500:]}")
+    found = re.fullmatch(r"requests \d+ compared \d+ errors (\d+) wrong (\d+)", results.get("mixed", ""))
+    expect(bool(found) and found is not None and int(found[1]) > 0 and found[2] == "0", f"of the first disk's requests: {results.get('mixed')}")
+    expect(results["found"].split()[0] == digest(before), "the second disk isn't as it was plugged in")
+    expect(bool(re.fullmatch(r"requests 800 compared \d+ errors 0 wrong 0", results["again"])), f"of the second disk's requests: {results['again']}")
+    expect(results["disk"].split()[0] == digest(contents(other)), "the second image isn't the disk that Linux read last")
     entries = [makes(record, image, room), makes(f"{record}.2", other, room)]
     return f"{found[1] if found else 0} requests failed; records of {' and '.join(entries)}"
 

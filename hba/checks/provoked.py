@@ -110,8 +110,9 @@ CASES: Sequence[Case] = (
      + [("write", FINE)] * 40 + [("look", "PxIS 00000000, PxSERR 00600001, DET 3, 0 messages")]),
     ("crc_error_then_ok.events", [("read", FINE)] * 99 + [("unanswered", "no answer"), ("look", "PxIS 08000000, PxSERR 00200100, DET 3, 1 messages"), ("comreset", "0 messages"), ("read", FINE)]),
     ("another_disk_in_the_slot.events",
-     [("named", "00000001, 2048 sectors"), ("fill", FINE)] + [("read", FINE)] * 63 + [("unanswered", "no answer"), ("up", "PxIS 00400040, PxSERR 04050000, DET 3, 0 messages"), ("comreset", "0 messages"),
-     ("named", "00000002, 2048 sectors"), ("held", f"00000000, {FINE}"), ("fill", FINE), ("held", f"5a5a5a5a, {FINE}")]),
+     [("named", "00000001, 2048 sectors"), ("fill", FINE)] + [("read", FINE)] * 63
+     + [("unanswered", "no answer"), ("up", "PxIS 00400040, PxSERR 04050000, DET 3, 0 messages"), ("comreset", "0 messages"),
+        ("named", "00000002, 2048 sectors"), ("held", f"00000000, {FINE}"), ("fill", FINE), ("held", f"5a5a5a5a, {FINE}")]),
     ("a_link_that_is_lost.events", [("read", FINE)] * 63 + [("unanswered", "no answer"), ("up", "PxIS 00400040, PxSERR 04050000, DET 3, 0 messages"), ("comreset", "0 messages"), ("read", FINE)]),
     ("a_tag_that_fails.events", [("full", "1 outstanding, error 04"), ("recover", "tag 31, error 04 at 248")] * 3 + [("full", "0 outstanding, done")]),
     ("error_in_a_full_queue.events", [("full", "0 outstanding, done"), ("full", "1 outstanding, error 40"), ("recover", "tag 31, error 40 at 248"), ("read", FINE)]),
@@ -197,7 +198,7 @@ READS = "requests 5000 compared 5000 errors 0 wrong 0"
 def interrupted(room: str, script: str, linux_says: Sequence[str]) -> Guest:
     """5,000 reads of Linux while a script of interrupts goes on: all come right."""
     guest = booting.troubled(room, "stall", ["--script", script_of(room, script), "--pick", "random"], [r"(lose|late|send)_interrupt.*", "an interrupt is lost"], linux_says)
-    expect(guest.told()["reads"] == READS, f"reads: {guest.told()['reads']}")
+    expect(guest.results()["reads"] == READS, f"reads: {guest.results()['reads']}")
     return guest
 
 

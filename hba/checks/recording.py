@@ -28,10 +28,10 @@ def slow_record(room: str) -> str:
     longest = 0.0
     for at in range(3):
         folder = os.path.join(room, f"record{at}")
-        told = answered([STALLED, "run", "--transport", way_of(room), "--image", blank(room, 64), "--record", folder], 2, env=stalled(room, 1000))
-        longest = float(told.partition("the longest took ")[2].split()[0])
+        printed = answered([STALLED, "run", "--transport", way_of(room), "--image", blank(room, 64), "--record", folder], 2, env=stalled(room, 1000))
+        longest = float(printed.partition("the longest took ")[2].split()[0])
         if longest < 500:
-            return f"{told}; {makes(folder, os.path.join(room, 'disk.img'), room)}"
+            return f"{printed}; {makes(folder, os.path.join(room, 'disk.img'), room)}"
     raise Failed(f"a register was read after {longest} ms, while the record was written")
 
 
@@ -51,9 +51,9 @@ def limited_record(room: str, limit: int, options: List[str], words: List[str], 
 
 def a_limit(room: str, binary: str = PROGRAM, millis: int = 0) -> str:
     """--record-limit: the record never has more bytes, while the queue is full all the time, and what is left plays."""
-    folder, told = limited_record(room, 80, ["--sectors", "8192", "--image", blank(room, 8192)], ["256", "64", "8192", "32", "-"], binary, millis)
+    folder, printed = limited_record(room, 80, ["--sectors", "8192", "--image", blank(room, 8192)], ["256", "64", "8192", "32", "-"], binary, millis)
     makes(folder, os.path.join(room, "disk.img"), room)
-    return told
+    return printed
 
 
 def a_slow_limit(room: str) -> str:
@@ -145,16 +145,16 @@ def far_failures(room: str) -> str:
     image = large_image(room, FAR, b"".join(struct.pack("<Q", FAR + at) * (SECTOR // 8) for at in range(8)))
     words = [SANITIZED, "run", "--transport", way_of(room), "--image", image, "--record", folder, "--fail", f"{fails}:40:ever", "--", READER, str(FAR), "60"]
     done = subprocess.run(words, stdin=subprocess.DEVNULL, capture_output=True, text=True, check=False, env=environment(room))
-    told_of = re.findall(r"^([0-9A-F]{2})h: 5 sectors, PRDBC \d+, error 40 at (\d+): 20$", done.stdout, re.MULTILINE)
-    expect(done.returncode == 0 and not done.stderr and told_of == [(code, str(fails)) for code in ("20", "60", "C8")], f"status {done.returncode}: {done.stdout}{done.stderr}")
+    failing = re.findall(r"^([0-9A-F]{2})h: 5 sectors, PRDBC \d+, error 40 at (\d+): 20$", done.stdout, re.MULTILINE)
+    expect(done.returncode == 0 and not done.stderr and failing == [(code, str(fails)) for code in ("20", "60", "C8")], f"status {done.returncode}: {done.stdout}{done.stderr}")
     failures = [it.lba for it in Record(folder).entries() if it.kind == FAIL]
     script = os.path.join(room, "script")
     names = playing.far_plays(folder, script, image, PLAYER)
     with open(script, encoding="ascii") as text:
         lines = text.read().split("\n")
     expect(names == list(range(FAR, FAR + 8)) and f"# sectors {FAR}..{FAR + 7} of the disk are 0..7 here" in lines, f"the script has sectors {names}")
-    told = [line.split()[3] for line in lines if re.fullmatch(r"fail \d+ 40 \d+", line)]
-    expect(set(failures) == {fails} and told == ["5"] * len(failures), f"the record has failures at {set(failures)}, and the script at {set(told)}")
+    scripted = [line.split()[3] for line in lines if re.fullmatch(r"fail \d+ 40 \d+", line)]
+    expect(set(failures) == {fails} and scripted == ["5"] * len(failures), f"the record has failures at {set(failures)}, and the script at {set(scripted)}")
     return f"{len(failures)} failures"
 
 
@@ -177,7 +177,7 @@ def a_far_limit(room: str, binary: str = PROGRAM, millis: int = 0) -> str:
     """--record-limit of a large disk: the record never has more bytes, and a part has the pages that its commands touch."""
     first, then = (1 << 31) + 3, os.path.join(room, "then")
     image = large_image(room, first, random.Random(33).randbytes(SECTOR * 8192))
-    folder, told = limited_record(room, 136, ["--image", image], ["256", "63", "8192", "32", str(first)], binary, millis)
+    folder, printed = limited_record(room, 136, ["--image", image], ["256", "63", "8192", "32", str(first)], binary, millis)
     record = Record(folder)
     _, last, _ = bounds(record)
     playing.far_plays(folder, os.path.join(room, "script"), image, PLAYER, "--from", str(last - 2999))
@@ -185,7 +185,7 @@ def a_far_limit(room: str, binary: str = PROGRAM, millis: int = 0) -> str:
     for start, end in ((begins - 1000, min(begins + 1000, last - 1)), (begins, begins + 40)):  # requests of which most have no answer need old bytes
         playing.image_of(folder, then, "--to", str(end), "--base", image)
         playing.far_plays(folder, os.path.join(room, "script"), then, PLAYER, "--from", str(start), "--to", str(end))
-    return f"{told}; its last part begins with {begins}"
+    return f"{printed}; its last part begins with {begins}"
 
 
 def a_slow_far_limit(room: str) -> str:

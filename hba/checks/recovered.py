@@ -36,7 +36,8 @@ class Flow(NamedTuple):
 
 FAIL = Flow("fail", "6.2.2.2", "on first read do fail 40", "queued happened", "cause active stop stopped status start log".split())
 # the interface fails when all four are in the queue, so that BSY is 0
-FATAL = Flow("fatal_crc_error", "6.2.2.2", "on every read numbers 1-4 do slow 10s\non first read do wait 50ms then fatal_crc_error", "queued happened", "cause active stop stopped errors status start log".split())
+FATAL = Flow("fatal_crc_error", "6.2.2.2", "on every read numbers 1-4 do slow 10s\non first read do wait 50ms then fatal_crc_error", "queued happened",
+             "cause active stop stopped errors status start log".split())
 SINGLE = Flow("fail", "6.2.2.1", "on first READ DMA do fail 40", "singles happened", "cause issued slot stop stopped status start".split())
 BUSY = Flow("stall", "6.2.2.1", "on first READ DMA do stall", "singles nap", "issued slot stop stopped comreset link ready errors start".split())  # BSY stays 1
 STALL = Flow("stall", "6.2.2.2", "on 3rd read do stall", "queued nap", "active stop stopped status start log".split())
@@ -56,7 +57,7 @@ class Case(NamedTuple):
     words: str                     # the driver's steps after the event
     states: Dict[str, str]         # of steps that aren't seen, or aren't asked for ("")
     requests: Dict[str, int]
-    told: str
+    received: str                  # what the memory of each request has
     also: Sequence[str] = ()
 
 
@@ -149,7 +150,7 @@ def judged(room: str, number: int, case: Case) -> None:
     requests = {name: times for name, times in found[0]["requests"].items() if times}
     expect(requests == case.requests, f"{where}: the requests are {requests}, and {case.requests} is right")
     expect(found[0]["also"] == list(case.also), f"{where}: also {found[0]['also']}, and {list(case.also)} is right")
-    expect(printed == case.told, f"{where}: the memory has {printed}, and {case.told} is right")
+    expect(printed == case.received, f"{where}: the memory has {printed}, and {case.received} is right")
     expect(f"\n{case.flow.event} " in said and "recovery from" in said, f"{where}: the table is {said}")
 
 

@@ -64,8 +64,8 @@ def one(folder: str, event: surviving.Event) -> Tuple[str, Dict[str, Any]]:
             said = f"FAILED {why}"
     print(f"{folder}: {event.name}: {said}", flush=True)
     broken = sorted({it["rule"] for it in came["rules"] if it["verdict"] == "broken"})
-    told = {name: came["told"][name] for name in ("mixed", "again", "flush") if name in came["told"]}
-    return event.name, {**told, "firmware": "qboot", "broken": broken, "hangs": came["hangs"], "says": came["says"], "recoveries": merged(came["recoveries"])}
+    results = {name: came["results"][name] for name in ("mixed", "again", "flush") if name in came["results"]}
+    return event.name, {**results, "firmware": "qboot", "broken": broken, "hangs": came["hangs"], "says": came["says"], "recoveries": merged(came["recoveries"])}
 
 
 def keep(folder: str, found: Dict[str, Any]) -> None:

@@ -157,8 +157,8 @@ def record(room: str) -> str:
         file.write(images.numbered_blocks(512, 4096))
     guest = Guest(room, ["--image", image, "--fail", "1000:40", "--pick", "random", "--delay", "500"], linux(room, "record", pattern(65536, "record")), recorded=image)
     guest.end(240)
-    told = guest.told()
-    expect(told["reads"] == "requests 2000 compared 1999 errors 1 wrong 0", f"reads: {told['reads']}")
+    results = guest.results()
+    expect(results["reads"] == "requests 2000 compared 1999 errors 1 wrong 0", f"reads: {results['reads']}")
     expect(contents(image)[-65536:] == pattern(65536, "record"), "the image has not what Linux wrote")
     failures = [(it.flag, it.lba) for it in Record(guest.record_path).entries() if it.kind == FAIL]
     expect(failures == [(0x40, 1000)], f"the record has the failures {failures}")
@@ -185,7 +185,8 @@ def garbage(room: str) -> str:
 def wrong_peer(room: str) -> str:
     """A peer of the proxy that sends what no QEMU does, under the sanitizers: what is no message ends the run with status 1, and all else is answered."""
     ended, unknown = "the guest's program ended in the middle of a message", "QEMU sent a message of "
-    cases = [("sizes", 0, ""), ("short_file", 0, "(the guest's memory at [0-9a-f]+ of 1048576 bytes can't be used: Invalid argument ?)+"), ("shortened", 0, ""), ("full_pipe", 0, ""), ("past_the_end", 0, ""),
+    cases = [("sizes", 0, ""), ("short_file", 0, "(the guest's memory at [0-9a-f]+ of 1048576 bytes can't be used: Invalid argument ?)+"), ("shortened", 0, ""),
+             ("full_pipe", 0, ""), ("past_the_end", 0, ""),
              ("unknown", 1, unknown + "kind 99, which is not known here"), ("long", 1, unknown + "1048576 bytes, of which [0-9]+ are known here"), ("half", 1, ended), ("half_data", 1, ended)]
     for what, status, said in cases:
         words = [SANITIZED, "run", "--transport", "proxy", "--judge", "--sectors", "64", "--", PEER, what]
@@ -205,10 +206,10 @@ def refused_memory(room: str) -> str:
     guest = Guest(room, ["--image", image], linux(room, "memory"), binary=STARVED)
     guest.end(240, said=f"{STARVES}\n")
     guest.linux_is_usual()
-    told = guest.told()
-    expect(bool(re.fullmatch(r"requests 4000 compared [1-9]\d* errors 0 wrong 0", told["small"])), f"small: {told['small']}")
-    expect(told["disk"].split()[0] == digest(contents(image)), "the image is not the disk that Linux read last")
-    return told["small"]
+    results = guest.results()
+    expect(bool(re.fullmatch(r"requests 4000 compared [1-9]\d* errors 0 wrong 0", results["small"])), f"small: {results['small']}")
+    expect(results["disk"].split()[0] == digest(contents(image)), "the image is not the disk that Linux read last")
+    return results["small"]
 
 
 def failed_reads(room: str) -> str:
@@ -257,7 +258,7 @@ def unkept(room: str) -> str:
     with open(new, "w", encoding="ascii") as file:
         file.write("kept")
     guest.end(240, status=1, said=f"(ahci-hba: --image {re.escape(image)}: it can't be written back: {re.escape(new)}: File exists; [0-9]+ pages have changed, and it is as it was\n)+")
-    expect(guest.told()["flush"] == "wrong", "Linux takes the write for kept")
+    expect(guest.results()["flush"] == "wrong", "Linux takes the write for kept")
     expect(contents(image) == before and contents(new) == b"kept", "the image has changed though it could not be written, or what was beside it")
     done = program("run", "--image", image, "--", "true")
     expect(done.returncode == 2 and f"{new} is in the way" in done.stderr, f"it starts beside {new}: {done.stderr}")
@@ -272,7 +273,7 @@ def written_at_the_end(room: str) -> str:
     guest.wait_for("^CHECK flush", 240)
     expect(contents(image) == before or guest.process.poll() is not None, "the image was written at a flush")
     guest.end(60)
-    expect(guest.told()["flush"] == "right", "the flush failed")
+    expect(guest.results()["flush"] == "right", "the flush failed")
     return "the flush is answered, the image is written at the end"
 
 
@@ -297,7 +298,8 @@ def written(room: str, options: List[str], words: List[str], status: int = 0, sa
 def rules(room: str) -> str:
     """--fail and --slow are about the commands that their conditions name: by number, direction and sector. Writes have 64 sectors, and fail at the first."""
     ended, taken = "a write failed\nahci-hba: the guest's program ended with status 1\n", 0
-    for number, (options, failures) in enumerate([(["--fail", "any:40,commands=3"], [128]), (["--fail", "70-127:04,writes"], [64]), (["--fail", "70:04:ever,reads"], []), (["--fail", "any:40,rate=1/1,seconds=90-99"], [])]):
+    for number, (options, failures) in enumerate([(["--fail", "any:40,commands=3"], [128]), (["--fail", "70-127:04,writes"], [64]),
+                                                  (["--fail", "70:04:ever,reads"], []), (["--fail", "any:40,rate=1/1,seconds=90-99"], [])]):
         folder = os.path.join(room, f"record{number}")
         written(room, ["--sectors", "256", "--record", folder, *options], ["1", "64", "256", "1", "-"], 1 if failures else 0, ended if failures else "")
         found = [it.lba for it in Record(folder).entries() if it.kind == FAIL]
@@ -353,7 +355,10 @@ def large(room: str) -> str:
     return f"{blocks} MiB of the image, {memory} MiB of memory"
 
 
-CHECKS = [Check(command_lines, title="Command lines"), Check(arguments, title="Arguments of QEMU"), Check(versions, title="Versions of QEMU"), Check(record, title="Record of Linux"), Check(garbage, title="Garbage"), Check(wrong_peer, title="A peer of the proxy that is wrong"),
-          Check(refused_memory, title="Refused memory"), Check(given_up, title="Memory that never comes"), Check(failed_reads, title="Reads that fail"), Check(killed_guest, title="A killed guest"), Check(unkept, title="A flush that can't be kept"),
-          Check(written_at_the_end, title="An image that is written at the end"), Check(full, title="Files that can't be written"), Check(rules, title="Rules"), Check(much_written, title="Much that is written"), Check(large, title="A disk of 2 TiB"),
+CHECKS = [Check(command_lines, title="Command lines"), Check(arguments, title="Arguments of QEMU"), Check(versions, title="Versions of QEMU"),
+          Check(record, title="Record of Linux"), Check(garbage, title="Garbage"), Check(wrong_peer, title="A peer of the proxy that is wrong"),
+          Check(refused_memory, title="Refused memory"), Check(given_up, title="Memory that never comes"), Check(failed_reads, title="Reads that fail"),
+          Check(killed_guest, title="A killed guest"), Check(unkept, title="A flush that can't be kept"),
+          Check(written_at_the_end, title="An image that is written at the end"), Check(full, title="Files that can't be written"), Check(rules, title="Rules"),
+          Check(much_written, title="Much that is written"), Check(large, title="A disk of 2 TiB"),
           Check(very_much_written, title="10 GiB that are written", is_long=True)]

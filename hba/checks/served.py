@@ -15,7 +15,7 @@ from typing import Any, Dict, List, Optional
 
 import booting
 import images
-from harness import HERE, PROGRAM, SANITIZED, SECTOR, Guest, answered, blank, by, contents, digest, linux, qemu, serial_of, told_by, vfio_device
+from harness import HERE, PROGRAM, SANITIZED, SECTOR, Guest, answered, blank, by, contents, digest, linux, qemu, results_of, serial_of, vfio_device
 from images import VFIO_USER, file_of, pattern, qemu_of
 import pace
 from suite import Check, Failed, Skipped, expect
@@ -29,17 +29,17 @@ COMPARED = r"requests \d+ compared [1-9]\d* errors 0 wrong 0"
 
 
 def linux_line(room: str) -> str:
-    """Interrupts come by INTA#, since Linux is told to take no messages, on two processors."""
+    """Interrupts come by INTA#, since Linux is started with messages off, on two processors."""
     image = blank(room, 32768)
     guest = Guest(room, ["--image", image], [*linux(room, "line", more="pci=nomsi"), "-smp", "2"])
     guest.end(240)
     guest.log_is_usual()
     guest.linux_is_usual([r"ahci 0000:00:..\.0: can't derive routing for PCI INT A", r"ahci 0000:00:..\.0: PCI INT A: .*"])
-    told = guest.told()
-    expect(bool(re.fullmatch(COMPARED, told["small"])), f"small: {told['small']}")
-    expect("IO-APIC" in told["interrupts"], f"the interrupts came by {told['interrupts']}")
-    expect(told["disk"].split()[0] == digest(contents(image)), "the image is not the disk that Linux read last")
-    return f"{told['small']}; {' '.join(told['interrupts'].split())}"
+    results = guest.results()
+    expect(bool(re.fullmatch(COMPARED, results["small"])), f"small: {results['small']}")
+    expect("IO-APIC" in results["interrupts"], f"the interrupts came by {results['interrupts']}")
+    expect(results["disk"].split()[0] == digest(contents(image)), "the image is not the disk that Linux read last")
+    return f"{results['small']}; {' '.join(results['interrupts'].split())}"
 
 
 def linux_messages(room: str) -> str:
@@ -50,11 +50,11 @@ def linux_messages(room: str) -> str:
     guest.end(240)
     guest.log_is_usual()
     guest.linux_is_usual()
-    told = guest.told()
-    expect(bool(re.fullmatch(COMPARED, told["small"])), f"small: {told['small']}")
+    results = guest.results()
+    expect(bool(re.fullmatch(COMPARED, results["small"])), f"small: {results['small']}")
     expect(any(line.endswith(", without a file") for line in guest.log()), "the memory has a file")
-    expect(told["disk"].split()[0] == digest(contents(image)), "the image is not the disk that Linux read last")
-    return told["small"]
+    expect(results["disk"].split()[0] == digest(contents(image)), "the image is not the disk that Linux read last")
+    return results["small"]
 
 
 # what Linux 7 says besides
@@ -89,13 +89,13 @@ def linux_arm(room: str) -> str:
     guest = Guest(room, ["--image", image], words, recorded=image)
     guest.end(300)
     guest.log_is_usual()
-    told = guest.told()
-    expect(told["uname"].startswith("aarch64"), f"this is {told['uname']}")
-    expect(told["before"].split()[0] == digest(before), "Linux has read another disk than the image")
-    expect(told["data"].split()[0] == digest(data), "Linux has read back other bytes than it wrote")
+    results = guest.results()
+    expect(results["uname"].startswith("aarch64"), f"this is {results['uname']}")
+    expect(results["before"].split()[0] == digest(before), "Linux has read another disk than the image")
+    expect(results["data"].split()[0] == digest(data), "Linux has read back other bytes than it wrote")
     expect(contents(image) == before[:-len(data)] + data, "the image is not what Linux wrote")
-    expect(told["after"].split()[0] == digest(contents(image)), "the image is not the disk that Linux read last")
-    return told["uname"]
+    expect(results["after"].split()[0] == digest(contents(image)), "the image is not the disk that Linux read last")
+    return results["uname"]
 
 
 def resets(room: str) -> str:
@@ -104,9 +104,9 @@ def resets(room: str) -> str:
     guest = Guest(room, ["--image", image], [*linux(room, "reboots", more=f"times={times}"), "-smp", "2"])
     guest.end(100 * times)
     guest.log_is_usual([r"the queue's journal of \d+ entries was handed out"])
-    told = guest.told()
-    expect(told["resets"] == str(times) and bool(re.fullmatch(COMPARED, told["again"])), f"{told}")
-    return f"{times} resets; {told['again']}"
+    results = guest.results()
+    expect(results["resets"] == str(times) and bool(re.fullmatch(COMPARED, results["again"])), f"{results}")
+    return f"{times} resets; {results['again']}"
 
 
 # ---- hot plug ----
@@ -165,12 +165,12 @@ def plugged(room: str, times: int = 2) -> str:
         monitor.ask("device_add", **device)
     guest.end(120)
     guest.log_is_usual([r"the queue's journal of \d+ entries was handed out"])
-    told = guest.told()
-    expect(bool(re.fullmatch(COMPARED, told["again"])), f"again: {told['again']}")
-    expect(told["disk"].split()[0] == digest(contents(image)), "the image is not the disk that Linux read last")
+    results = guest.results()
+    expect(bool(re.fullmatch(COMPARED, results["again"])), f"again: {results['again']}")
+    expect(results["disk"].split()[0] == digest(contents(image)), "the image is not the disk that Linux read last")
     found = sum(line == "the PCI function is unplugged" for line in guest.log())
     expect(found >= times, f"the function was unplugged {found} times")
-    return f"{times} times; {told['again']}"
+    return f"{times} times; {results['again']}"
 
 
 def often_plugged(room: str) -> str:
@@ -231,11 +231,11 @@ def served(room: str) -> str:
             started.kill()
         expect(pace.ended(started, 240), "QEMU doesn't end")
     expect(started is not None and started.returncode == 0, "QEMU has not ended well")
-    told = told_by(os.path.join(room, "serial"))
+    results = results_of(os.path.join(room, "serial"))
     server.end()
-    expect(bool(re.fullmatch(COMPARED, told["small"])), f"small: {told['small']}")
-    expect(told["disk"].split()[0] == digest(contents(image)), "the image is not the disk that Linux read last")
-    return told["small"]
+    expect(bool(re.fullmatch(COMPARED, results["small"])), f"small: {results['small']}")
+    expect(results["disk"].split()[0] == digest(contents(image)), "the image is not the disk that Linux read last")
+    return results["small"]
 
 
 def paths(room: str) -> str:

@@ -31,7 +31,7 @@ EVENTS: Sequence[Event] = (
     shipped("a_tag_that_fails", NONE, [ABRT]),
     shipped("a_slow_disk", NONE, is_quiet=True, words=BUSY_MACHINE),
     shipped("fails_again_during_recovery", NONE, [UNCHECKED, RESET], words="libata.force=nodmalog"),  # else it reads the log by READ LOG DMA EXT
-    shipped("an_aborted_flush", NONE, [ABRT], words="flushes=1", options=["--write-cache"], told=[("flush", "right")],
+    shipped("an_aborted_flush", NONE, [ABRT], words="flushes=1", options=["--write-cache"], results=[("flush", "right")],
             instead=[("FLUSH CACHE EXT", "FLUSH CACHE")]),  # as Linux flushes a disk of less than 2^28 sectors
     shipped("identify_fails", UNFOUND, is_quiet=True, words="appears=60"),
     shipped("identify_stays_busy", NONE, [r"qc timeout", r"failed to IDENTIFY"]),

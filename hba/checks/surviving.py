@@ -49,7 +49,7 @@ class Event(NamedTuple):
     options: Sequence[str] = ()  # of the program
     pick: str = "random"         # its option
     words: str = ""              # of the kernel's command line
-    told: Sequence[Tuple[str, str]] = ()  # what else the guest has to tell
+    results: Sequence[Tuple[str, str]] = ()  # what else the guest has to print
     is_exchanged: bool = False  # the disk that is there at the end is another one, which has an image of its own here
     instead: Sequence[Tuple[str, str]] = ()  # parts of a shipped script, and what stands in their place here; "" is its end, `5*s` five seconds of an idle machine
 
@@ -165,9 +165,10 @@ def outcome(room: str, folder: str, event: Event) -> Dict[str, Any]:
         with open(found, encoding="utf-8") as file:
             judged = json.load(file)
     serial = guest.serial()
-    told = dict(re.findall(r"CHECK (\S+) ?(.*)$", serial, re.MULTILINE))
-    summed = told.get("disk", "").split()
-    return {"hangs": hangs, "status": guest.process.returncode, "told": told, "same": not summed or summed[0] == digest(contents(last)), "bad": re.findall(f"^.*(?:{BAD}).*$", serial, re.MULTILINE)[:3],
+    results = dict(re.findall(r"CHECK (\S+) ?(.*)$", serial, re.MULTILINE))
+    summed = results.get("disk", "").split()
+    return {"hangs": hangs, "status": guest.process.returncode, "results": results, "same": not summed or summed[0] == digest(contents(last)),
+            "bad": re.findall(f"^.*(?:{BAD}).*$", serial, re.MULTILINE)[:3],
             "says": lines_of(guest), "rules": judged["rules"], "recoveries": judged["recoveries"], "happened": "it never happened" not in guest.said(), "end": serial[-1500:]}
 
 
@@ -185,21 +186,23 @@ def class_of(text: str, known: int = 0) -> str:
 
 def look(event: Event, folder: str, came: Dict[str, Any]) -> str:
     """Compares what came with what is written down."""
-    told = came["told"]
+    results = came["results"]
     where = f"{event.name} on {KERNELS[folder]}"
     if event.errors == UNFOUND:
-        is_right = told.get("failed:") == UNFOUND and "end" in told and came["happened"] and not came["bad"] and came["status"] == 0
-        expect(is_right, f"{where}: {told}, {came['bad']}, status {came['status']}")
+        is_right = results.get("failed:") == UNFOUND and "end" in results and came["happened"] and not came["bad"] and came["status"] == 0
+        expect(is_right, f"{where}: {results}, {came['bad']}, status {came['status']}")
         expect(not event.is_quiet or not came["says"], f"{where}: Linux writes {came['says'][:6]}")
         return UNFOUND
-    expect(not came["hangs"] and "mixed" in told and "end" in told, f"{where}: it hangs; the last lines:\n{came['end']}")
+    expect(not came["hangs"] and "mixed" in results and "end" in results, f"{where}: it hangs; the last lines:\n{came['end']}")
     expect(came["happened"], f"{where}: the event never happened")
     expect(came["status"] in (0, BROKE_A_RULE), f"{where}: status {came['status']}")
-    expect("failed:" not in told and not came["bad"] and told.get("depth") == ("1" if event.is_alone else "32"), f"{where}: {told.get('failed:')}, {came['bad']}, depth {told.get('depth')}")
+    expect("failed:" not in results and not came["bad"] and results.get("depth") == ("1" if event.is_alone else "32"),
+           f"{where}: {results.get('failed:')}, {came['bad']}, depth {results.get('depth')}")
     expect(came["same"], f"{where}: the image is not the disk that Linux read last")
-    errors, again = class_of(told["mixed"], event.wrong), class_of(told["again"])
-    expect((errors, again) == (event.errors, event.again), f"{where}: {errors} of the requests fail, and {again} later, not {event.errors} and {event.again}: {told['mixed']}; {told['again']}; {came['says'][:12]}")
-    expect(all(told.get(name) == text for name, text in event.told), f"{where}: the guest tells {told}, and not {event.told}")
+    errors, again = class_of(results["mixed"], event.wrong), class_of(results["again"])
+    expect((errors, again) == (event.errors, event.again),
+           f"{where}: {errors} of the requests fail, and {again} later, not {event.errors} and {event.again}: {results['mixed']}; {results['again']}; {came['says'][:12]}")
+    expect(all(results.get(name) == text for name, text in event.results), f"{where}: the guest printed {results}, and not {event.results}")
     missing = [it for it in event.says if not any(re.search(it, line) for line in came["says"])]
     expect(not missing, f"{where}: Linux does not write {missing}, but {came['says'][:12]}")
     expect(not event.is_quiet or not came["says"], f"{where}: Linux writes {came['says'][:6]}")
@@ -227,16 +230,17 @@ def outcomes(_: str) -> str:
     """What a run must not come to is refused: wrong data, a write that is gone, a hang, an end that doesn't come, a warning, more errors than are written down, and lines of Linux
     that don't come, or come where it has nothing to say."""
     event, quiet = Event("an event", "", ONE, ["reset"]), Event("a quiet one", "", NONE, is_quiet=True)
-    told = {"depth": "32", "mixed": "requests 2500 compared 1700 errors 1 wrong 0 kept 512 lost 0", "again": "requests 800 compared 300 errors 0 wrong 0", "end": ""}
-    right: Dict[str, Any] = {"hangs": False, "status": 0, "told": told, "same": True, "bad": [], "says": ["ata1: hard resetting link"], "recoveries": [], "happened": True, "end": ""}
-    none = {**told, "mixed": "requests 2500 compared 1700 errors 0 wrong 0 kept 512 lost 0"}
+    results = {"depth": "32", "mixed": "requests 2500 compared 1700 errors 1 wrong 0 kept 512 lost 0", "again": "requests 800 compared 300 errors 0 wrong 0", "end": ""}
+    right: Dict[str, Any] = {"hangs": False, "status": 0, "results": results, "same": True, "bad": [], "says": ["ata1: hard resetting link"], "recoveries": [], "happened": True, "end": ""}
+    none = {**results, "mixed": "requests 2500 compared 1700 errors 0 wrong 0 kept 512 lost 0"}
     look(event, "kernel", right)
-    look(quiet, "kernel", {**right, "told": none, "says": []})
+    look(quiet, "kernel", {**right, "results": none, "says": []})
     wrong: List[Tuple[Event, Dict[str, Any]]] = [
-        (event, {"told": {**told, "mixed": told["mixed"].replace("wrong 0", "wrong 1")}}), (event, {"told": {**told, "mixed": told["mixed"].replace("lost 0", "lost 1")}}),
-        (event, {"told": {**told, "again": told["again"].replace("wrong 0", "wrong 1")}}), (event, {"hangs": True}), (event, {"told": {"depth": "32", "end": ""}}),
-        (event, {"told": {**told, "mixed": ""}}), (event, {"told": {it: text for it, text in told.items() if it != "end"}}), (event, {"bad": ["WARNING: CPU: 0"]}), (event, {"same": False}),
-        (event, {"told": none}), (event, {"told": {**told, "again": "no disk"}}), (event, {"says": []}), (event, {"happened": False}), (event, {"status": 1}), (quiet, {"told": none})]
+        (event, {"results": {**results, "mixed": results["mixed"].replace("wrong 0", "wrong 1")}}), (event, {"results": {**results, "mixed": results["mixed"].replace("lost 0", "lost 1")}}),
+        (event, {"results": {**results, "again": results["again"].replace("wrong 0", "wrong 1")}}), (event, {"hangs": True}), (event, {"results": {"depth": "32", "end": ""}}),
+        (event, {"results": {**results, "mixed": ""}}), (event, {"results": {it: text for it, text in results.items() if it != "end"}}),
+        (event, {"bad": ["WARNING: CPU: 0"]}), (event, {"same": False}),
+        (event, {"results": none}), (event, {"results": {**results, "again": "no disk"}}), (event, {"says": []}), (event, {"happened": False}), (event, {"status": 1}), (quiet, {"results": none})]
     for case, change in wrong:
         try:
             look(case, "kernel", {**right, **change})

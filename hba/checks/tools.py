@@ -35,21 +35,29 @@ class Run(NamedTuple):
 
 
 # a line that may be a complaint
-COMPLAINT = re.compile(r"warning|error|support|invalid|fail|unknown|unavail|mismatch|not set|bad|missing|abort|violat|cannot|illegal|incorrect|checksum|exception|read-only|\bno\b|\bnot\b", re.IGNORECASE)
+COMPLAINT = re.compile(r"warning|error|support|invalid|fail|unknown|unavail|mismatch|not set|bad|missing|abort|violat|cannot|illegal|incorrect|checksum|exception"
+                       r"|read-only|\bno\b|\bnot\b", re.IGNORECASE)
 
 # such lines of a disk without a fault
 GOOD = [r"\s*without error or no self-test has ever ?", r"\s*Self-test supported\.", r"\s*Supports SMART auto save timer\.",
-        r"Error logging capability:        \(0x01\)\tError logging supported\.", r"\s*General Purpose Logging supported\.", r"SMART support is: (Available - device has SMART capability\.|Enabled|Disabled)",
-        r"SMART\s+Log Directory Version 1 \[multi-sector log support\]", r"0x01 +SL +R/O +1  Summary SMART error log", r"0x03 +GPL +R/O +1  Ext\. Comprehensive SMART error log", r"0x10 +GPL +R/O +1  NCQ Command Error log",
-        r"SMART Extended Comprehensive Error Log Version: 1 \(1 sectors\)", r"No Errors Logged", r"No self-tests have been logged\.  \[To run self-tests, use: smartctl -t\]", r"# +\d+  (Short|Extended) offline +Completed without error +00% +0 +-",
-        r"Num  Test_Description    Status                  Remaining  LifeTime\(hours\)  LBA_of_first_error", r"0x0001  2            0  Command failed due to ICRC error", r"Use smartctl -X to abort test\.",
-        r"Command failed and ICRC error bit set in Error register: 0", r"\s*\*?\s*SMART error logging", r"\s*\|\|__ D supports DSN", r"Supported: 10 ?", r"Enabled\tSupported:", r"\*?\s*Data Set Management TRIM supported \(limit 8 blocks\)",
+        r"Error logging capability:        \(0x01\)\tError logging supported\.", r"\s*General Purpose Logging supported\.",
+        r"SMART support is: (Available - device has SMART capability\.|Enabled|Disabled)",
+        r"SMART\s+Log Directory Version 1 \[multi-sector log support\]", r"0x01 +SL +R/O +1  Summary SMART error log",
+        r"0x03 +GPL +R/O +1  Ext\. Comprehensive SMART error log", r"0x10 +GPL +R/O +1  NCQ Command Error log",
+        r"SMART Extended Comprehensive Error Log Version: 1 \(1 sectors\)", r"No Errors Logged",
+        r"No self-tests have been logged\.  \[To run self-tests, use: smartctl -t\]", r"# +\d+  (Short|Extended) offline +Completed without error +00% +0 +-",
+        r"Num  Test_Description    Status                  Remaining  LifeTime\(hours\)  LBA_of_first_error",
+        r"0x0001  2            0  Command failed due to ICRC error", r"Use smartctl -X to abort test\.",
+        r"Command failed and ICRC error bit set in Error register: 0", r"\s*\*?\s*SMART error logging", r"\s*\|\|__ D supports DSN", r"Supported: 10 ?",
+        r"Enabled\tSupported:", r"\*?\s*Data Set Management TRIM supported \(limit 8 blocks\)",
         r"Cycle time: no flow control=120ns  IORDY flow control=120ns", r"Device is:        Not in smartctl database .*"]
 
 # what this disk has not, and need not have
-LACKS = [r"AAM feature is:   Unavailable", r"DSN feature is:   Unavailable", r"ATA Security is:  Unavailable", r"Wt Cache Reorder: Unavailable", r"ATA Version is:   ACS-3 \(minor revision not indicated\)",
+LACKS = [r"AAM feature is:   Unavailable", r"DSN feature is:   Unavailable", r"ATA Security is:  Unavailable", r"Wt Cache Reorder: Unavailable",
+         r"ATA Version is:   ACS-3 \(minor revision not indicated\)",
          r"No Auto Offline data collection support\.", r"No Offline surface scan supported\.", r"No Conveyance Self-test supported\.", r"No Selective Self-test supported\.",
-         r"Selective Self-tests/Logging not supported", r"SCT Commands not supported", r"Pending Defects log \(GP Log 0x0c\) not supported", r"cache/buffer size  = unknown", r"Standby timer values: spec'd by Vendor, no device specific minimum"]
+         r"Selective Self-tests/Logging not supported", r"SCT Commands not supported", r"Pending Defects log \(GP Log 0x0c\) not supported",
+         r"cache/buffer size  = unknown", r"Standby timer values: spec'd by Vendor, no device specific minimum"]
 
 # what ACS-3 wants otherwise, or may want: docs/TOOLS.md
 DOUBTFUL = [r"Integrity word not set \(found 0x0000, expected 0x[0-9a-f]{2,3}a5\)", r"was completed without error\."]
@@ -65,18 +73,24 @@ OF_A_RUN = {"sector_bad": [UNREAD], "sector_flagged": [UNREAD], "read_bad": [NO_
 STATUS = {"read_bad": 1, "skips": 2, "plain_conveyance": 4}  # smartctl(8), "-n standby" and "EXIT STATUS": the disk has no such test
 
 # what Linux writes meanwhile
-KERNEL = {"read_bad": [*ENDED, *MEDIUM, r"ata1\.00: configured for UDMA/100", r"res 41/40:00:e8:03:00/00:00:00:00:00/00 Emask 0x409 \(media error\) <F>"], "cache_0": [r"sd 0:0:0:0: \[sda\] Write cache: disabled, .*"], "cache_1": [r"sd 0:0:0:0: \[sda\] Write cache: enabled, .*"],
-          "awake": [r"ata1\.00: exception Emask 0x0 SAct 0x[0-9a-f]+ SErr 0x0 action 0x6", r"ata1\.00: waking up from sleep", r"ata1: hard resetting link", r"ata1: SATA link up 3\.0 Gbps \(SStatus 123 SControl 300\)",
+KERNEL = {"read_bad": [*ENDED, *MEDIUM, r"ata1\.00: configured for UDMA/100", r"res 41/40:00:e8:03:00/00:00:00:00:00/00 Emask 0x409 \(media error\) <F>"],
+          "cache_0": [r"sd 0:0:0:0: \[sda\] Write cache: disabled, .*"], "cache_1": [r"sd 0:0:0:0: \[sda\] Write cache: enabled, .*"],
+          "awake": [r"ata1\.00: exception Emask 0x0 SAct 0x[0-9a-f]+ SErr 0x0 action 0x6", r"ata1\.00: waking up from sleep", r"ata1: hard resetting link",
+                    r"ata1: SATA link up 3\.0 Gbps \(SStatus 123 SControl 300\)",
                     r"ata1\.00: configured for UDMA/100", r"ata1: EH complete"]}
 BUSY = [r"hrtimer: interrupt took \d+ ns", r"clocksource: .*", r"sched: RT throttling activated"]  # the machine is
 FILE_SYSTEMS = [r"init \(1\): drop_caches: 3", r"(EXT4-fs|XFS) \(sda\): (mounted filesystem|unmounting|Unmounting|Mounting|Ending clean mount).*", r"SGI XFS with .*"]
 
-NAMED = [rf"Device Model:     {MODEL}", rf"Serial Number:    {SERIAL}", rf"Firmware Version: {FIRMWARE}", rf"User Capacity:    {BYTES:,} bytes \[536 MB\]", r"Sector Size:      512 bytes logical/physical",
+NAMED = [rf"Device Model:     {MODEL}", rf"Serial Number:    {SERIAL}", rf"Firmware Version: {FIRMWARE}", rf"User Capacity:    {BYTES:,} bytes \[536 MB\]",
+         r"Sector Size:      512 bytes logical/physical",
          rf"Rotation Rate:    {RPM} rpm", r"TRIM Command:     Available", r"ATA Version is:   ACS-3.*", rf"LU WWN Device Id: 3 {NAME >> 36 & 0xFFFFFF:06x} {NAME & (1 << 36) - 1:09x}"]
 PASSED = r"SMART overall-health self-assessment test result: PASSED"
-HEALTHY = [*NAMED, PASSED, r"APM feature is:   Disabled", r"Rd look-ahead is: Enabled", r"Write cache is:   Enabled", r"SMART support is: Enabled", r"General Purpose Log Directory Version 1", r"No Errors Logged",
-           r"0x00       GPL,SL  R/O      1  Log Directory", r"0x04       GPL     R/O      2  Device Statistics log", r"0x06           SL  R/O      1  SMART self-test log", r"0x07       GPL     R/O      1  Extended self-test log",
-           r"0x11       GPL     R/O      1  SATA Phy Event Counters log", r"0x30       GPL     R/O      7  IDENTIFY DEVICE data log", r"0x80-0x9f  GPL,SL  R/W     16  Host vendor specific log", r"0x01  0x010  4               0  ---  Power-on Hours",
+HEALTHY = [*NAMED, PASSED, r"APM feature is:   Disabled", r"Rd look-ahead is: Enabled", r"Write cache is:   Enabled", r"SMART support is: Enabled",
+           r"General Purpose Log Directory Version 1", r"No Errors Logged",
+           r"0x00       GPL,SL  R/O      1  Log Directory", r"0x04       GPL     R/O      2  Device Statistics log",
+           r"0x06           SL  R/O      1  SMART self-test log", r"0x07       GPL     R/O      1  Extended self-test log",
+           r"0x11       GPL     R/O      1  SATA Phy Event Counters log", r"0x30       GPL     R/O      7  IDENTIFY DEVICE data log",
+           r"0x80-0x9f  GPL,SL  R/W     16  Host vendor specific log", r"0x01  0x010  4               0  ---  Power-on Hours",
            r"0x0001  2            0  Command failed due to ICRC error", r"SMART Extended Self-test Log Version: 1 \(1 sectors\)"]
 SHORT, LONG = (rf"# +{{}}  {it} offline +Completed without error +00% +0 +-" for it in ("Short", "Extended"))
 
@@ -85,9 +99,12 @@ def features(cache: str = "*", ahead: str = "*", apm: str = "") -> List[str]:
     """What hdparm -I prints of a disk by these settings; * is enabled."""
     has = [("*", "SMART feature set"), ("*", "Power Management feature set"), (cache, "Write cache"), (ahead, "Look-ahead"), ("*", "WRITE_BUFFER command"), ("*", "READ_BUFFER command"),
            ("*" if apm else "", "Advanced Power Management feature set"), ("*", "48-bit Address feature set"), ("*", "Mandatory FLUSH_CACHE"), ("*", "FLUSH_CACHE_EXT"), ("*", "SMART error logging"),
-           ("*", "SMART self-test"), ("*", "General Purpose Logging feature set"), ("*", "WRITE_UNCORRECTABLE_EXT command"), ("*", "{READ,WRITE}_DMA_EXT_GPL commands"), ("*", "Gen1 signaling speed (1.5Gb/s)"), ("*", "Gen2 signaling speed (3.0Gb/s)"),
-           ("*", "Native Command Queueing (NCQ)"), ("*", "Phy event counters"), ("*", "64-bit World wide name"), ("*", "WRITE_{DMA|MULTIPLE}_FUA_EXT"), ("*", "WRITE BUFFER DMA command"), ("*", "READ BUFFER DMA command"), ("*", "Data Set Management TRIM supported (limit 8 blocks)")]
-    return [rf"Model Number:       {MODEL}", rf"Serial Number:      {SERIAL}", rf"Firmware Revision:  {FIRMWARE}", rf"LBA    user addressable sectors: +{SECTORS}", rf"LBA48  user addressable sectors: +{SECTORS}",
+           ("*", "SMART self-test"), ("*", "General Purpose Logging feature set"), ("*", "WRITE_UNCORRECTABLE_EXT command"),
+           ("*", "{READ,WRITE}_DMA_EXT_GPL commands"), ("*", "Gen1 signaling speed (1.5Gb/s)"), ("*", "Gen2 signaling speed (3.0Gb/s)"),
+           ("*", "Native Command Queueing (NCQ)"), ("*", "Phy event counters"), ("*", "64-bit World wide name"), ("*", "WRITE_{DMA|MULTIPLE}_FUA_EXT"),
+           ("*", "WRITE BUFFER DMA command"), ("*", "READ BUFFER DMA command"), ("*", "Data Set Management TRIM supported (limit 8 blocks)")]
+    return [rf"Model Number:       {MODEL}", rf"Serial Number:      {SERIAL}", rf"Firmware Revision:  {FIRMWARE}",
+            rf"LBA    user addressable sectors: +{SECTORS}", rf"LBA48  user addressable sectors: +{SECTORS}",
             r"R/W multiple sector transfer: Max = 16\tCurrent = \?", rf"Logical Unit WWN Device Identifier: {NAME:016x}",
             r"Logical/Physical Sector size:           512 bytes", rf"Nominal Media Rotation Rate: {RPM}", r"Queue depth: 32", rf"Advanced power management level: {apm or 'disabled'}",
             *((r"\*\t" if sign else "") + re.escape(name) for sign, name in has)]
@@ -100,9 +117,11 @@ SAYS: Sequence[Tuple[str, List[str]]] = (
     ("long", [r"Drive command \"Execute SMART Extended self-test routine immediately in off-line mode\" successful\."]), ("tested_twice", [LONG.format(1), SHORT.format(2)]),
     ("smart_off", [r"SMART Disabled\..*"]), ("smart_is_off", [*NAMED, r"SMART support is: Disabled"]), ("smart_on", [r"SMART Enabled\.", r"SMART Attribute Autosave Enabled\."]),
     ("cache_0", [r"write-caching =  0 \(off\)"]), ("cache_identify_0", features(cache="")), ("cache_1", [r"write-caching =  1 \(on\)"]), ("cache_identify_1", features()),
-    ("ahead_0", [r"look-ahead    =  0 \(off\)"]), ("apm_127", [r"APM_level\t= 127"]), ("set_identify", features(ahead="", apm="127")), ("ahead_1", [r"look-ahead    =  1 \(on\)"]), ("apm_255", [r"APM_level\t= off"]),
+    ("ahead_0", [r"look-ahead    =  0 \(off\)"]), ("apm_127", [r"APM_level\t= 127"]), ("set_identify", features(ahead="", apm="127")),
+    ("ahead_1", [r"look-ahead    =  1 \(on\)"]), ("apm_255", [r"APM_level\t= off"]),
     ("is_standby", [r"drive state is:  standby"]), ("skips", [r"Device is in STANDBY mode, exit\(2\)"]), ("woken", [r"1\+0 records in"]), ("is_woken", [r"drive state is:  active/idle"]),
-    ("awake", [r"1\+0 records in"]), ("is_awake", [r"drive state is:  active/idle"]), ("timer", [r"setting standby to 12 \(1 minute\)"]), ("bad", [r"Corrupting sector 1000 \(WRITE_UNC_EXT as pseudo\): succeeded"]), ("sector_bad", [UNREAD]),
+    ("awake", [r"1\+0 records in"]), ("is_awake", [r"drive state is:  active/idle"]), ("timer", [r"setting standby to 12 \(1 minute\)"]),
+    ("bad", [r"Corrupting sector 1000 \(WRITE_UNC_EXT as pseudo\): succeeded"]), ("sector_bad", [UNREAD]),
     ("sector_next", [r"reading sector 1001: succeeded"]), ("read_bad", [NO_READ]), ("repaired", [r"re-writing sector 1000: succeeded"]), ("read_again", [r"1\+0 records in"]),
     ("flagged", [r"Corrupting sector 1000 \(WRITE_UNC_EXT as flagged\): succeeded"]), ("sector_flagged", [UNREAD]), ("beyond", [NOT_FOUND]),
     ("zeroed", [r"re-writing sector 1000: succeeded"]), ("phy", [r"Command failed and ICRC error bit set in Error register: 0", r"Signature device-to-host register FISes due to COMRESET: \d+"]),
@@ -117,10 +136,12 @@ PLAIN: Sequence[Tuple[str, List[str]]] = (
     ("plain_identify", [r"Model Number:       SOFTWARE NCQ DISK", r"Serial Number:      00000001", r"Firmware Revision:  1\.0", r"LBA48  user addressable sectors: +131072",
                         r"Nominal Media Rotation Rate: Solid State Device", r"\*\tLook-ahead", r"Advanced power management level: disabled"]),
     ("plain_settings", [NO_CACHE, r"APM feature is:   Disabled", r"Rd look-ahead is: Enabled"]), ("plain_cache", OF_A_RUN["plain_cache"]),
-    ("plain_set", [r"APM set to level 128 .*", r"Read look-ahead disabled", r"Standby timer set to 10 .*"]), ("plain_set_settings", [NO_CACHE, r"APM level is:     128 .*", r"Rd look-ahead is: Disabled"]),
+    ("plain_set", [r"APM set to level 128 .*", r"Read look-ahead disabled", r"Standby timer set to 10 .*"]),
+    ("plain_set_settings", [NO_CACHE, r"APM level is:     128 .*", r"Rd look-ahead is: Disabled"]),
     ("plain_offline", [r"Drive command \"Execute SMART off-line routine immediately in off-line mode\" successful\."]), ("plain_conveyance", [NO_CONVEYANCE]),
     ("plain_trim", [r"trimming 8 sectors from 1 ranges", r"succeeded"]), ("plain_discard", [r"0 512 0 0 67108864 1\.0.*"]),
-    ("plain_end", [r"Rotation Rate:    Solid State Device", r"User Capacity:    67,108,864 bytes \[67\.1 MB\]", PASSED, r"No Errors Logged", r"No self-tests have been logged\..*", r"TRIM Command:     Available"]))
+    ("plain_end", [r"Rotation Rate:    Solid State Device", r"User Capacity:    67,108,864 bytes \[67\.1 MB\]", PASSED, r"No Errors Logged",
+                   r"No self-tests have been logged\..*", r"TRIM Command:     Available"]))
 
 
 def runs_of(text: str) -> Dict[str, Run]:
@@ -166,8 +187,8 @@ def pages_right(runs: Dict[str, Run]) -> None:
     """IDENTIFY DEVICE and the logs, by their bytes."""
     words = words_of(runs["words"].lines, r"[0-9a-f]+ +")
     for name, first, last, text in (("serial", 10, 19, SERIAL), ("firmware", 23, 26, FIRMWARE), ("model", 27, 46, MODEL)):
-        told = b"".join(it.to_bytes(2, "big") for it in words[first:last + 1])
-        expect(told == text.encode().ljust(2 * (last + 1 - first)), f"the {name} is {told!r}")
+        found = b"".join(it.to_bytes(2, "big") for it in words[first:last + 1])
+        expect(found == text.encode().ljust(2 * (last + 1 - first)), f"the {name} is {found!r}")
     counted = [sum(words[at + it] << 16 * it for it in range(count)) for at, count in ((60, 2), (100, 4))]
     expect(counted == [SECTORS, SECTORS] and words[217] == RPM, f"sectors {counted}, rotation rate {words[217]}")
     pages = {name: bytes_of(run) for name, run in runs.items() if name.startswith("log_")}
@@ -192,9 +213,9 @@ def sectors_right(runs: Dict[str, Run]) -> None:
     """A sector as hdparm reads it: one that was made bad is zeros once hdparm has written it."""
     wanted = [(name, DATA[:512] if name == "sector" else bytes(512)) for name in ("sector", "sector_next", "sector_again", "sector_zeroed")]
     for name, content in wanted:
-        told = b"".join(it.to_bytes(2, "big") for it in words_of(runs[name].lines, ""))
-        swapped = b"".join(told[it:it + 2][::-1] for it in range(0, 512, 2))
-        expect(content in (told, swapped), f"{name} is {told.hex()}")
+        found = b"".join(it.to_bytes(2, "big") for it in words_of(runs[name].lines, ""))
+        swapped = b"".join(found[it:it + 2][::-1] for it in range(0, 512, 2))
+        expect(content in (found, swapped), f"{name} is {found.hex()}")
 
 
 def trims_right(runs: Dict[str, Run]) -> str:
@@ -207,7 +228,8 @@ def trims_right(runs: Dict[str, Run]) -> str:
         if not found:
             raise Failed(f"fstrim on {system}: {runs[f'fstrim_{system}'].lines}")
         trimmed = int(found[1])
-        expect(trimmed == 512 * (after - before) and size * free <= trimmed <= size * blocks, f"fstrim on {system}: {trimmed} bytes trimmed, {after - before} sectors discarded, {free} of {blocks} blocks of {size} free")
+        expect(trimmed == 512 * (after - before) and size * free <= trimmed <= size * blocks,
+               f"fstrim on {system}: {trimmed} bytes trimmed, {after - before} sectors discarded, {free} of {blocks} blocks of {size} free")
         expect(runs[f"kept_{system}"].lines[0].split()[0] == digest(DATA), f"after fstrim on {system} the file is another")
         said.append(f"{system} {trimmed} bytes trimmed")
     return ", ".join(said)
@@ -218,7 +240,7 @@ def performed(room: str, options: Sequence[str], sectors: int, says: Sequence[Tu
     guest = Guest(room, ["--image", blank(room, sectors), *options], linux(room, "tools", DATA, more=more))
     guest.end(600)
     guest.log_is_usual([r"fail \d+ with 40 at sector 1000, which is marked uncorrectable", r"the queue's journal of \d+ entries was handed out"])
-    guest.told()
+    guest.results()
     runs = runs_of(guest.serial())
     absent = [name for name, _ in says if name not in runs]
     expect(not absent, f"the runs {absent} have not ended")
@@ -247,14 +269,20 @@ def plain(room: str) -> str:
 
 
 # what these tools print of a disk with a fault, and Linux
-FAULTS = ["Warning! SMART Attribute Data Structure error: invalid SMART checksum.", "Warning! Drive Identity Structure error: invalid checksum.", "SMART overall-health self-assessment test result: FAILED!",
+FAULTS = ["Warning! SMART Attribute Data Structure error: invalid SMART checksum.", "Warning! Drive Identity Structure error: invalid checksum.",
+          "SMART overall-health self-assessment test result: FAILED!",
           "Warning: device does not support Self-Test functions.", "Read SMART Data failed: scsi error aborted command", "SMART Status command failed", "General Purpose Log Directory not supported",
-          "Read GP Log Directory failed", "SMART Extended Comprehensive Error Log (GP Log 0x03) not supported", "SMART Extended Self-test Log (GP Log 0x07) not supported", "Device Statistics (GP/SMART Log 0x04) not supported",
-          "SATA Phy Event Counters (GP Log 0x11) not supported", "# 1  Short offline       Completed: read failure       90%         0         1000", "SMART support is: Unavailable - device lacks SMART capability.",
+          "Read GP Log Directory failed", "SMART Extended Comprehensive Error Log (GP Log 0x03) not supported",
+          "SMART Extended Self-test Log (GP Log 0x07) not supported", "Device Statistics (GP/SMART Log 0x04) not supported",
+          "SATA Phy Event Counters (GP Log 0x11) not supported", "# 1  Short offline       Completed: read failure       90%         0         1000",
+          "SMART support is: Unavailable - device lacks SMART capability.",
           "APM feature is:   Unavailable", "Write cache is:   Unavailable", "Rd look-ahead is: Unavailable", "Error SMART Values Read failed: scsi error aborted command",
-          "Integrity word: checksum incorrect", "HDIO_DRIVE_CMD(identify) failed: Input/output error", "SG_IO: bad/missing sense data, sb[]:  70 00 0b 00 00 00 00 0a 04 41 00 00", "APM_level\t= not supported",
-          "fstrim: /mnt: the discard operation is not supported", "blkdiscard: /dev/sda: BLKDISCARD ioctl failed: Remote I/O error", "Unexpected: ATA PASS-THROUGH, aborted command", "error reading the log"]
-KERNEL_FAULTS = ["ata1.00: exception Emask 0x1 SAct 0x0 SErr 0x0 action 0x0", "ata1.00: error: { ABRT }", "ata1.00: Read log 0x30 page 0x08 failed, Emask 0x1", "I/O error, dev sda, sector 0 op 0x3:(DISCARD) flags 0x800 phys_seg 1 prio class 2"]
+          "Integrity word: checksum incorrect", "HDIO_DRIVE_CMD(identify) failed: Input/output error",
+          "SG_IO: bad/missing sense data, sb[]:  70 00 0b 00 00 00 00 0a 04 41 00 00", "APM_level\t= not supported",
+          "fstrim: /mnt: the discard operation is not supported", "blkdiscard: /dev/sda: BLKDISCARD ioctl failed: Remote I/O error",
+          "Unexpected: ATA PASS-THROUGH, aborted command", "error reading the log"]
+KERNEL_FAULTS = ["ata1.00: exception Emask 0x1 SAct 0x0 SErr 0x0 action 0x0", "ata1.00: error: { ABRT }", "ata1.00: Read log 0x30 page 0x08 failed, Emask 0x1",
+                 "I/O error, dev sda, sector 0 op 0x3:(DISCARD) flags 0x800 phys_seg 1 prio class 2"]
 
 
 def faults(_: str) -> str:

@@ -23,13 +23,16 @@ from images import PROXY, VFIO_USER
 from suite import Check, Skipped
 
 # these have no guest of QEMU, or a way of their own
-WITHOUT = ["Command lines", "Arguments of QEMU", "Files that can't be written", "User Mode Linux", "A peer of the proxy that is wrong", "Events, step by step", "Events and options", "Events that never happen", "Scripts that are judged",
-           "Power losses that can't be", "Recoveries, step by step", "Recoveries, steps that are left out", "Recoveries, answers", "Recoveries, two events", "Outcomes that are refused", "Linux and each script that is shipped",
+WITHOUT = ["Command lines", "Arguments of QEMU", "Files that can't be written", "User Mode Linux", "A peer of the proxy that is wrong", "Events, step by step",
+           "Events and options", "Events that never happen", "Scripts that are judged",
+           "Power losses that can't be", "Recoveries, step by step", "Recoveries, steps that are left out", "Recoveries, answers", "Recoveries, two events",
+           "Outcomes that are refused", "Linux and each script that is shipped",
            "Complaints of the tools", "Another disk, step by step", "Other disks that can't be"]
 # these have a driver of our own instead of a QEMU
 BARE = ["Garbage", "Memory that never comes", "Reads that fail", "Rules", "Much that is written", "A disk of 2 TiB", "10 GiB that are written", "A limit of the record", "A limit of a slow record",
         "A kill after an answer", "A kill after an answer, with a slow record", "A slow record", "A record without room", "The judge, faults of a driver",
-        "The judge, drivers without a fault", "The judge, from a stretch on", "Power losses, with a cache", "Power losses, without a cache", "Power losses, a large disk", "Power losses that are wrong", "Power losses and a kill", "Power losses without an image that can be written",
+        "The judge, drivers without a fault", "The judge, from a stretch on", "Power losses, with a cache", "Power losses, without a cache",
+        "Power losses, a large disk", "Power losses that are wrong", "Power losses and a kill", "Power losses without an image that can be written",
         "Power losses, 2,000"]
 # these run by the proxy, too
 ALSO = ["SeaBIOS and a boot sector", "SeaBIOS and an error", "Linux, flushes and a kill", "Garbage", "A killed guest", "Rules", "Reads that fail", "A kill after an answer",
@@ -63,6 +66,7 @@ def ways_of(check: Check, has_new: bool) -> List[Check]:
 
 def checks() -> List[Check]:
     has_new = has_qemu(VFIO_USER)
-    both = [*rough.CHECKS, *recording.CHECKS, *booting.CHECKS, *debian.CHECKS, *judging.CHECKS, *provoked.CHECKS, *recovered.CHECKS, *surviving.CHECKS, *shipped.CHECKS, *firmware.CHECKS, *losing.CHECKS, *others.CHECKS, *tools.CHECKS]
+    both = [*rough.CHECKS, *recording.CHECKS, *booting.CHECKS, *debian.CHECKS, *judging.CHECKS, *provoked.CHECKS, *recovered.CHECKS, *surviving.CHECKS,
+            *shipped.CHECKS, *firmware.CHECKS, *losing.CHECKS, *others.CHECKS, *tools.CHECKS]
     found = [it for check in both for it in ways_of(check, has_new)] + served.CHECKS
     return found if has_new else [Check(missing_qemu, title="A QEMU with vfio-user"), *found]

@@ -177,7 +177,8 @@ def decisions(room: str) -> str:
         ("on time 1s do power_on repeat 2", ["time 999999", "time 1000000", "time 1999999", "time 5000000"], ["", "1 power_on", "", "1 power_on"]),
         ("on first any do power_loss\non 2nd any seed 9 do power_loss then power_loss seed 4", [READ, "time 0", READ, "time 0"], ["", "1 power_loss 1", "", "2 power_loss 9; 2 power_loss 4"]),
         ("on time 1s do plug another b.img then plug another then plug then plug another c", ["time 1000000"], ["1 plug another b.img; 1 plug another; 1 plug; 1 plug another c"]),
-        ("on time 1s do power_on then wait 3s then send_interrupt repeat 2", ["time 1000000", "time 4000000", "time 5000000", "time 9000000"], ["1 power_on", "1 send_interrupt", "1 power_on", "1 send_interrupt"]),
+        ("on time 1s do power_on then wait 3s then send_interrupt repeat 2", ["time 1000000", "time 4000000", "time 5000000", "time 9000000"],
+         ["1 power_on", "1 send_interrupt", "1 power_on", "1 send_interrupt"]),
         ("on 2nd write PxSCTL do late_interrupt 5us", ["wrote 12c 4 0", "wrote 128 4 0", "wrote 130 4 0", "time 0", "wrote 128 8 0", "time 0"], ["", "", "", "", "", "1 late_interrupt 5"]),
         ("on every any do wait 1ms then send_interrupt", [READ, READ, "time 1000", READ, "time 1000"], ["", "", "1 send_interrupt", "", "1 send_interrupt"]),
     )

@@ -201,5 +201,6 @@ def held_commands(room: str) -> str:
     return f"{reissued} commands were issued again; {summary_of(server)}"
 
 
-CHECKS = [Check(a_failing_sector, ["fio", "qemu-io"]), Check(one_request_fails, ["qemu-io"]), Check(rules, ["qemu-io"]), Check(scripts, ["qemu-io"]), Check(wrong_scripts), Check(rule_by_time, ["qemu-io"]), Check(rates, ["fio"]),
+CHECKS = [Check(a_failing_sector, ["fio", "qemu-io"]), Check(one_request_fails, ["qemu-io"]), Check(rules, ["qemu-io"]), Check(scripts, ["qemu-io"]),
+          Check(wrong_scripts), Check(rule_by_time, ["qemu-io"]), Check(rates, ["fio"]),
           Check(slow_commands, ["fio"]), Check(jitter, ["fio"]), Check(held_commands, ["fio"])]

@@ -113,7 +113,8 @@ def sync_of_many(room: str) -> str:
     for sectors in (8192, 131073):
         data = made(image, 4 * MIB)
         with serving(room, f"image={image}", f"sectors={sectors}", "sync=flush", "pick=random") as server:
-            must_be_clean(fio(server, "sync", "--rw=randwrite", "--bssplit=4k/80:512/10:9k/10", "--iodepth=32", "--offset=100k", "--size=3m", "--fsync=16", "--verify=crc32c", "--do_verify=1", "--randseed=2"))
+            must_be_clean(fio(server, "sync", "--rw=randwrite", "--bssplit=4k/80:512/10:9k/10", "--iodepth=32", "--offset=100k", "--size=3m", "--fsync=16",
+                              "--verify=crc32c", "--do_verify=1", "--randseed=2"))
             ran(["qemu-io", "-t", "writeback", "-f", "raw", "-c", "flush", server.uri])
             found = out(server, os.path.join(room, "back"))
             if found != contents(image) or len(found) != 512 * sectors or found[:100 << 10] != data[:100 << 10]:
@@ -133,7 +134,8 @@ def killed_while_flushing(room: str) -> str:
         given = ["together=4", "pick=random"] if at % 2 else []
         server = Server(room, PLUGIN, [f"image={image}", "sync=flush", *given])
         words = [word for generation in range(1, 200) for place in places for word in ("-c", f"write -P {generation} {place} 64k", *(("-c", "flush") if place == places[-1] else ()))]
-        client = subprocess.Popen(["stdbuf", "-oL", "qemu-io", "-t", "writeback", "-f", "raw", *words, server.uri], stdin=subprocess.DEVNULL, stdout=subprocess.PIPE, stderr=subprocess.DEVNULL, text=True)
+        client = subprocess.Popen(["stdbuf", "-oL", "qemu-io", "-t", "writeback", "-f", "raw", *words, server.uri], stdin=subprocess.DEVNULL,
+                                  stdout=subprocess.PIPE, stderr=subprocess.DEVNULL, text=True)
         assert client.stdout
         wait, lines = draw.randrange(1, 7), 2 * len(places)  # a flush is done once a line of the next write is there
         for _ in range(lines * wait + draw.choice((draw.randrange(1, lines), lines, lines))):

@@ -110,7 +110,8 @@ def flat(room: str) -> str:
         begun = time.monotonic()
         with serving(room, f"image={image}", "sync=flush", "most-journal=1M") as server:
             started = time.monotonic()
-            words = [word for at in range(16) for word in ("-c", f"write -P {at + 1} {at * size // 16 // 4096 * 4096} 1M", "-c", f"write -P 3 {at * size // 16 // 4096 * 4096 + MIB} 3M", "-c", "flush")]
+            words = [word for at in range(16)
+                     for word in ("-c", f"write -P {at + 1} {at * size // 16 // 4096 * 4096} 1M", "-c", f"write -P 3 {at * size // 16 // 4096 * 4096 + MIB} 3M", "-c", "flush")]
             ran(["qemu-io", "-t", "writeback", "-f", "raw", *words, server.uri])
             memory.append(server.own_memory())
         times.append(f"{size // MIB} MiB: start {1000 * (started - begun):.0f} ms, all {time.monotonic() - begun:.2f} s, {counted(server, 'trims')} trims, {memory[-1] // MIB} MiB of memory")
@@ -188,7 +189,8 @@ def a_killed_terabyte(room: str) -> str:
     """kill -9 in the middle of writes to a disk of 1 TiB: what the record has plays."""
     folder, then = os.path.join(room, "record"), os.path.join(room, "then")
     server = Server(room, PLUGIN, ["size=1T", f"record={folder}", "pick=random"])
-    job = subprocess.Popen(["fio", "--name=cut", "--ioengine=nbd", f"--uri={server.uri}", "--rw=randrw", "--bsrange=512-8k", "--iodepth=32", "--offset=900g", "--size=4m", "--time_based", "--runtime=60"],
+    job = subprocess.Popen(["fio", "--name=cut", "--ioengine=nbd", f"--uri={server.uri}", "--rw=randrw", "--bsrange=512-8k", "--iodepth=32", "--offset=900g",
+                            "--size=4m", "--time_based", "--runtime=60"],
                            stdin=subprocess.DEVNULL, stdout=subprocess.DEVNULL, stderr=subprocess.DEVNULL, cwd=room)
     limit = pace.Limit(20)
     while not limit.has_passed() and (not os.path.exists(folder) or size_of(folder) < 8 * MIB):
@@ -208,7 +210,8 @@ def a_limited_terabyte(room: str) -> str:
     """record-limit= of a disk of 1 TiB: the record never has more bytes, the oldest part is dropped, and the others have the pages that their commands touch."""
     folder, limit, largest, then = os.path.join(room, "record"), 24 * MIB, 0, os.path.join(room, "then")
     with serving(room, "size=1T", f"record={folder}", "record-limit=24M") as server:
-        job = subprocess.Popen(["fio", "--name=limit", "--ioengine=nbd", f"--uri={server.uri}", "--rw=randwrite", "--bs=16k", "--iodepth=32", "--offset=300g", "--size=4m", "--io_size=100m", "--norandommap"],
+        job = subprocess.Popen(["fio", "--name=limit", "--ioengine=nbd", f"--uri={server.uri}", "--rw=randwrite", "--bs=16k", "--iodepth=32", "--offset=300g",
+                                "--size=4m", "--io_size=100m", "--norandommap"],
                                stdin=subprocess.DEVNULL, stdout=subprocess.DEVNULL, stderr=subprocess.DEVNULL, cwd=room)
         while job.poll() is None:
             largest = max(largest, size_of(folder))
@@ -231,5 +234,6 @@ def a_limited_terabyte(room: str) -> str:
     return f"{largest} bytes at most, entries {first} to {last} are left"
 
 
-CHECKS = [Check(a_terabyte, ["fio", "mkfs.ext4", "e2fsck", "nbdfuse"]), Check(a_terabyte_of_xfs, ["mkfs.xfs", "xfs_repair", "nbdfuse"]), Check(both_ends, ["qemu-io"]), Check(no_memory, ["qemu-io"]), Check(flat, ["qemu-io"]),
+CHECKS = [Check(a_terabyte, ["fio", "mkfs.ext4", "e2fsck", "nbdfuse"]), Check(a_terabyte_of_xfs, ["mkfs.xfs", "xfs_repair", "nbdfuse"]),
+          Check(both_ends, ["qemu-io"]), Check(no_memory, ["qemu-io"]), Check(flat, ["qemu-io"]),
           Check(a_recorded_terabyte, ["fio", "qemu-io", "qemu-img"]), Check(a_killed_terabyte, ["fio"]), Check(a_limited_terabyte, ["fio", "qemu-img"])]

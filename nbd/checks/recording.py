@@ -153,7 +153,8 @@ def answered_and_killed(room: str) -> str:
     for at in range(5):
         folder = os.path.join(room, f"record{at}")
         server = Server(room, PLUGIN, ["sectors=8192", f"record={folder}"])
-        client = subprocess.Popen(["stdbuf", "-oL", "qemu-io", "-f", "raw", "-c", f"write -P {at + 1} 0 16k", "-c", "sleep 60000", server.uri], stdin=subprocess.DEVNULL, stdout=subprocess.PIPE, text=True)
+        client = subprocess.Popen(["stdbuf", "-oL", "qemu-io", "-f", "raw", "-c", f"write -P {at + 1} 0 16k", "-c", "sleep 60000", server.uri],
+                                  stdin=subprocess.DEVNULL, stdout=subprocess.PIPE, text=True)
         assert client.stdout
         client.stdout.readline()
         server.stop(signal.SIGKILL)

@@ -226,5 +226,6 @@ def page_commands(room: str) -> str:
     return f"{len(blocks)} blocks"
 
 
-CHECKS = [Check(mounted_ext4, ["nbdfuse", "losetup", "mkfs.ext4"]), Check(mounted_btrfs, ["nbdfuse", "losetup", "mkfs.btrfs", "btrfs"]), Check(a_database, ["nbdfuse", "losetup", "mkfs.ext4", "sqlite3"]),
+CHECKS = [Check(mounted_ext4, ["nbdfuse", "losetup", "mkfs.ext4"]), Check(mounted_btrfs, ["nbdfuse", "losetup", "mkfs.btrfs", "btrfs"]),
+          Check(a_database, ["nbdfuse", "losetup", "mkfs.ext4", "sqlite3"]),
           Check(a_guest, ["qemu-system-x86_64", "busybox", "modprobe", "cpio", "mkfs.ext4", "nbdcopy"]), Check(page_commands, ["bash", "fio", "nbdcopy", "mkfs.ext4"])]

@@ -28,7 +28,9 @@ def wrong_words(room: str) -> str:
         ("what=1", "what: there is no such parameter"), ("image=/nowhere/image", "image=/nowhere/image: No such file"), ("image=/", "no regular file"),
         ("record=/nowhere/record", "No such file"), (f"record={image}", "Not a directory"), ("sync=flush", "there is no image="), ("record-limit=1", "there is no record="),
     ]
-    several = [(["16Q"], 'size: expected whole sectors'), (["sectors=8", "4K"], "both say how large the disk is"), ([f"image={image}", "sectors=2"], "the image has 3 sectors"), (["fail=1:40"] * 65, "64 times at most"), (["sectors=8", "fail=8:40"], "the disk has 8 sectors"),
+    several = [(["16Q"], 'size: expected whole sectors'), (["sectors=8", "4K"], "both say how large the disk is"),
+               ([f"image={image}", "sectors=2"], "the image has 3 sectors"), (["fail=1:40"] * 65, "64 times at most"),
+               (["sectors=8", "fail=8:40"], "the disk has 8 sectors"),
                (["sectors=8", "sectors=8"], "sectors= is given twice"), (["sectors=8", "size=4K"], "both say how large the disk is"), (["size=4K", "sectors=8"], "both say how large the disk is"),
                (["size=2199023255040", "fail=4294967295:40"], "the disk has 4294967295 sectors"), (["pick=low", "pick=high"], "pick= is given twice"),
                ([f"record={room}/record", "record-limit=1K"], "at least"),

@@ -13,7 +13,7 @@ from __future__ import annotations
 import builtins
 import ctypes
 import mmap
-from typing import List, Optional, Union
+from typing import List, Optional, Tuple, Union
 
 from .library import Bytes, Owner, fits, given
 from .names import DeviceKind, InterfaceError, Rule, Step, Want
@@ -94,6 +94,16 @@ class Hba(Owner):
     def write_cache_enabled(self) -> bool:
         """Whether the disk has a volatile write cache that is enabled: SET FEATURES and resets of the link change it."""
         return bool(self._number("write_cache_enabled", u32))
+
+    def trim_zeros(self, supported: bool) -> None:
+        """Sectors that DATA SET MANAGEMENT with TRIM names read as zeros from now on, or it is advice that changes no sector."""
+        self._call("trim_zeros", int(supported))
+
+    def trim_range(self, slot: int) -> Optional[Tuple[int, int]]:
+        """The sectors that the next step of a slot's command makes zeros: the first of them, and how many."""
+        lba, sectors = u64(), u32()
+        self._call("trim_range", fits(slot, 32, "slot"), ctypes.byref(lba), ctypes.byref(sectors))
+        return (lba.value, sectors.value) if sectors.value else None
 
     def lose_link(self) -> int:
         """PhyRdy is lost: the disk drops its commands. Returns what `write` does."""

@@ -30,7 +30,8 @@ def _snake(name: str) -> str:
 
 _PLACES: Dict[Type[Hba], Tuple[str, ...]] = {
     StopKeepsActive: ("PxSACT",), StopKeepsIssued: ("PxCI",), StopKeepsSlot: ("PxCMD",), NoCurrentSlot: ("PxCMD",), LowestSlotFirst: ("PxCMD", "PxCI"),
-    TakenWhileBusy: ("emulator: no command is taken while BSY or DRQ", "the emulator dies", "PxCI", "PxTFD"), NoBusy: ("PxTFD", "the emulator dies"), CKeepsIssued: ("PxCI", "emulator: C is set and PxCI loses the slot"),
+    TakenWhileBusy: ("emulator: no command is taken while BSY or DRQ", "the emulator dies", "PxCI", "PxTFD"), NoBusy: ("PxTFD", "the emulator dies"),
+    CKeepsIssued: ("PxCI", "emulator: C is set and PxCI loses the slot"),
     CKeepsBusy: ("PxTFD", "emulator: C is set and BSY is cleared"), LoneControlSigns: ("PxTFD", "PxSIG", "PxCI"), ErrorByteLost: ("PxTFD",), BitsFisTakesAll: ("PxSACT",),
     ErrorClearsActive: ("PxSACT",), NoTfes: ("PxIS",), GoesOnAfterAnError: ("PxCMD", "PxCI", "PxTFD", "PxSACT"), ErrorClearsIssued: ("PxCI",), NoSdbs: ("PxIS",), DhrsWithoutI: ("PxIS",),
     NoPssOfWrites: ("PxIS",), PssAtOnce: ("PxIS",), StatusWrittenWhole: ("PxIS",), ErrorsStayWithStatus: ("PxSERR", "PxIS"), StatusFalls: ("IS",), StatusIgnoresEnable: ("IS",),
