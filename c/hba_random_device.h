@@ -271,6 +271,7 @@ static void trim(void)
     ahci_entry entry;
     uint64_t entries = 77;
     const bool busy = is_busy();
+    compare_image();
     for (uint32_t at = 0; at < 0x50; at++)
         words[at] = driven(4 * at);
     CHECK(ahci_hba_port(&hba, &before) == AHCI_OK);

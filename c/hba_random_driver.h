@@ -147,6 +147,7 @@ static void asks_log(uint8_t *fis, uint8_t far, uint8_t many)
 /* Whether a run is about TRIM and what it touches: marks, the power mode, flushes, and what is reported. */
 static bool is_about_trim;
 
+/* The code of a command, of which those of queued ones come most. */
 static uint8_t some_code(void)
 {
     static const uint8_t codes[] = { 0x60, 0x61, 0x60, 0x61, 0x60, 0x61, 0x60, 0x61, 0xC8, 0xCA, 0x25, 0x35, 0x20, 0x20, 0x30, 0x24, 0x34, 0x34, 0xEC, 0x2F, 0x2F, 0x47, 0xEA,

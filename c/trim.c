@@ -9,7 +9,7 @@ enum { SUCCESS = 0x40, ABORTED = 0x0441 };                                      
 enum { RZAT = 1 << 5, DRAT = 1 << 14 };                                                      /* word 69 of IDENTIFY DEVICE */
 enum { STANDBY = 0x00, ACTIVE_OR_IDLE = 0xFF };                                              /* the count of CHECK POWER MODE */
 
-static uint8_t memory[BYTES], image[SECTORS * AHCI_SECTOR_BYTES];
+static uint8_t memory[BYTES], base[SECTORS * AHCI_SECTOR_BYTES], image[SECTORS * AHCI_SECTOR_BYTES];
 static ahci_hba hba;
 static int lacking;
 
@@ -268,21 +268,52 @@ static void advises(void)
     NEED(power_mode() == STANDBY);
 }
 
+/* A controller with a disk that has the image, in memory or over a base. */
+static uint32_t make(bool is_over)
+{
+    const ahci_hba_capabilities usual = AHCI_HBA_USUAL;
+    return is_over ? ahci_hba_over(&hba, base, sizeof base, SECTORS, 32, &usual) : ahci_hba_new(&hba, base, sizeof base, 32);
+}
+
+static void begin(bool is_over)
+{
+    uint32_t status = make(is_over);
+    if (status == AHCI_OUT_OF_MEMORY) {
+        lacking++;
+        status = make(is_over);
+    }
+    NEED(status == AHCI_OK);
+    memset(memory, 0, sizeof memory);
+    memcpy(image, base, sizeof image);
+    start();
+}
+
+/* Over a base: the page of the sectors is named, and the base stays. */
+static void touches_pages(void)
+{
+    uint32_t pages[1];
+    uint64_t touched;
+    begin(true);
+    NONE(ahci_hba_trim_zeros(&hba, 1));
+    NONE(ahci_hba_touched(&hba, pages, 1, &touched));
+    NEED(touched == 0);
+    lay_range(5, 6, 2);
+    issue_trim();
+    zeroes(6, 2);
+    NONE(ahci_hba_touched(&hba, pages, 1, &touched));
+    NEED(touched == 1 && pages[0] == 0 && base[7 * AHCI_SECTOR_BYTES] == 8);
+    ends(SUCCESS);
+    NONE(ahci_hba_free(&hba));
+}
+
 static int story(void)
 {
     uint64_t lba;
     uint32_t count;
     lacking = 0;
-    memset(memory, 0, sizeof memory);
-    for (uint32_t at = 0; at < sizeof image; at++)
-        image[at] = (uint8_t)(1 + at / AHCI_SECTOR_BYTES);
-    uint32_t status = ahci_hba_new(&hba, image, sizeof image, 32);
-    if (status == AHCI_OUT_OF_MEMORY) {
-        lacking++;
-        status = ahci_hba_new(&hba, image, sizeof image, 32);
-    }
-    NEED(status == AHCI_OK);
-    start();
+    for (uint32_t at = 0; at < sizeof base; at++)
+        base[at] = (uint8_t)(1 + at / AHCI_SECTOR_BYTES);
+    begin(false);
     NEED(!(word_69() & (RZAT | DRAT)));
     NONE(ahci_hba_trim_zeros(&hba, 1));
     NEED((word_69() & (RZAT | DRAT)) == (RZAT | DRAT));
@@ -292,6 +323,7 @@ static int story(void)
     advises();
     NEED(ahci_hba_trim_range(&hba, 32, &lba, &count) == AHCI_BAD_TAG);
     NONE(ahci_hba_free(&hba));
+    touches_pages();
     NEED(ahci_hba_trim_zeros(&hba, 1) == AHCI_NO_PORT && ahci_hba_trim_range(&hba, 0, &lba, &count) == AHCI_NO_PORT);
     return lacking;
 }
