@@ -662,6 +662,10 @@ uint32_t ahci_hba_write_cache(ahci_hba *hba, uint32_t supported);
    SET FEATURES 82h, which disables it, wants them stored, and then each write before it is answered (ACS-3, "SET FEATURES"). Doesn't allocate. */
 uint32_t ahci_hba_write_cache_enabled(ahci_hba *hba, uint32_t *enabled);
 
+/* Sectors that DATA SET MANAGEMENT with TRIM names read as zeros from now on, or it is advice that changes no sector if `supported` is 0, as of a new disk. IDENTIFY DEVICE reports it (ACS-3, word 69: DRAT, bit 14, and RZAT,
+   bit 5), and so does page 03h of log 30h. No reset and no power cycle changes it, and another disk that is plugged in has it as the one before. */
+uint32_t ahci_hba_trim_zeros(ahci_hba *hba, uint32_t supported);
+
 /* Events: what the link, the disk and the interface do by themselves, each at any time (chapter 6, and 7, "Hot Plug Operation"). *entries as by a reset.
 
    PhyRdy is lost: DET 0, DIAG.N and PRCS, PxTFD and PxSIG as after COMRESET, and a port with ST 1 stops at its command; PxCI and PxSACT stay until the driver clears ST. The disk drops all
@@ -724,6 +728,9 @@ uint32_t ahci_hba_spoiled(ahci_hba *hba);
 /* Takes the next step with the command of a slot: the one that `next` names. AHCI_BAD_TAG, AHCI_NOT_READY if there is none,
    AHCI_OUT_OF_MEMORY: the step can be taken again. */
 uint32_t ahci_hba_step(ahci_hba *hba, uint32_t slot, uint64_t *entries);
+
+/* The sectors that the next step of a slot's command makes zeros, if it is a TRIM that does so: the first of them and how many. *sectors is 0 if that step makes none zeros. */
+uint32_t ahci_hba_trim_range(const ahci_hba *hba, uint32_t slot, uint64_t *lba, uint32_t *sectors);
 
 /* The disk fails a command that it has accepted with an error byte at one of its sectors, if the command is queued: a Set Device Bits FIS
    with ERR. Log 10h names that sector, and a driver takes the command's sectors before it as moved: Linux completes their requests. A read
