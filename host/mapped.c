@@ -140,13 +140,29 @@ int mapped_open(struct mapped *mapped) {
     return image_look_for_new(&mapped->image) || recover(mapped) ? -1 : 0;
 }
 
-/* The mapping's last page goes on with zeros behind the file's end, and so does the last sector. */
+/* How many of the file's bytes come before the hole at its end; all of them if there is none, or if the file system doesn't know. */
+static uint64_t data_of(int file, uint64_t bytes) {
+    uint64_t low = 0, high = (bytes + PAGE_BYTES - 1) / PAGE_BYTES; /* from page `high` on the file has no data */
+    while (low < high) {
+        const uint64_t middle = low + (high - low) / 2;
+        if (lseek(file, (off_t)(middle * PAGE_BYTES), SEEK_DATA) < 0 && errno == ENXIO)
+            high = middle;
+        else
+            low = middle + 1;
+    }
+    return high * PAGE_BYTES < bytes ? high * PAGE_BYTES : bytes;
+}
+
+/* The mapping's last page goes on with zeros behind the file's end, and so does the last sector. What a disk over the mapping has behind it is zeros without marks, so zeros that a guest
+   makes there take no memory. */
 int mapped_map(struct mapped *mapped) {
     struct image *image = &mapped->image;
     if (!image->path)
         return 0;
     unmap(mapped);
-    mapped->length = (size_t)(image->bytes + SECTOR_BYTES - 1) / SECTOR_BYTES * SECTOR_BYTES;
+    mapped->length = (size_t)(data_of(mapped->file, image->bytes) + SECTOR_BYTES - 1) / SECTOR_BYTES * SECTOR_BYTES;
+    if (image->bytes % SECTOR_BYTES)
+        note_of("image", image->path, "%" PRIu64 " bytes are no whole sectors; the last one is filled up with zeros", image->bytes);
     if (!mapped->length)
         return 0;
     void *at = mmap(NULL, mapped->length, PROT_READ, MAP_PRIVATE, mapped->file, 0);
@@ -156,8 +172,6 @@ int mapped_map(struct mapped *mapped) {
     }
     madvise(at, mapped->length, MADV_RANDOM); /* else the first write of a page would read as much around it as the file's disk reads ahead */
     mapped->bytes = at;
-    if (image->bytes % SECTOR_BYTES)
-        note_of("image", image->path, "%" PRIu64 " bytes are no whole sectors; the last one is filled up with zeros", image->bytes);
     return 0;
 }
 

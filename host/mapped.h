@@ -15,8 +15,8 @@ struct mapped {
     struct image image;
     int file;             /* locked; -1: there is no image */
     int why_not;          /* an errno: why it can't be written, or 0 */
-    const uint8_t *bytes; /* the mapping; NULL if there is none, or if the image is empty */
-    size_t length;        /* its whole sectors, in bytes: zeros fill up the last one */
+    const uint8_t *bytes; /* the mapping; NULL if there is none, or if the image has no data */
+    size_t length;        /* its whole sectors, in bytes: zeros fill up the last one. It ends where a hole up to the file's end begins */
     struct changes changes; /* since the last write-back */
     bool has_journal;     /* a write-back has failed and left FILE.journal, which is whole */
 };
