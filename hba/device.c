@@ -80,7 +80,7 @@ static struct choice choice_of(const struct device *device) {
             choice.soonest = ready < choice.soonest ? ready : choice.soonest;
         else if (kind == AHCI_STEP_SEND)
             sends |= bit;
-        else if (step_answers(kind))
+        else if (step_answers(device, slot))
             choice.answers |= bit;
         else
             choice.early |= bit;
@@ -273,6 +273,7 @@ int device_make(struct device *device) {
     if (status == AHCI_OK) {
         device_must("ahci_hba_identity", ahci_hba_identity(&device->hba, &settings->identity));
         device_must("ahci_hba_write_cache", ahci_hba_write_cache(&device->hba, settings->write_cache));
+        device_must("ahci_hba_trim_zeros", ahci_hba_trim_zeros(&device->hba, settings->trim_zeros));
         return 0;
     }
     say("the controller can't be made: status %" PRIu32 " of ahci.h", status);

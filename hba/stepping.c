@@ -7,8 +7,18 @@
 
 #define WRITE_UNCORRECTABLE_EXT 0x45
 
-bool step_answers(uint8_t kind) {
-    return kind == AHCI_STEP_SERVE || kind == AHCI_STEP_EXECUTE;
+struct extent step_zeros(const struct device *device, uint32_t slot) {
+    uint64_t lba = 0;
+    uint32_t sectors = 0;
+    if (device->state.next[slot] == AHCI_STEP_EXECUTE)
+        device_must("ahci_hba_trim_range", ahci_hba_trim_range(&device->hba, slot, &lba, &sectors));
+    return (struct extent){.lba = (uint32_t)lba, .sectors = sectors};
+}
+
+/* A step that makes sectors zeros comes before the one that answers the TRIM. */
+bool step_answers(const struct device *device, uint32_t slot) {
+    const uint8_t kind = device->state.next[slot];
+    return kind == AHCI_STEP_SERVE || (kind == AHCI_STEP_EXECUTE && !step_zeros(device, slot).sectors);
 }
 
 /* Whether a flush was carried out, and not aborted: it is the journal's newest entry then. */
@@ -42,10 +52,14 @@ static void note_marked(struct device *device, uint32_t slot) {
     provoke_answer(device, slot);
 }
 
-/* What the library's step of a slot means here. */
-static void note_step(struct device *device, uint32_t slot, uint8_t kind) {
+/* What the library's step of a slot means here, which has made these sectors zeros, if any. */
+static void note_step(struct device *device, uint32_t slot, uint8_t kind, struct extent zeros) {
     struct task *task = &device->tasks[slot];
     history_count(device, slot, kind);
+    if (zeros.sectors) {
+        mapped_zeroed(&device->settings->mapped, zeros.lba, zeros.sectors);
+        return;
+    }
     if (kind == AHCI_STEP_FETCH) {
         device->reading = slot;
         device->runs = 0;
@@ -67,24 +81,31 @@ static void note_step(struct device *device, uint32_t slot, uint8_t kind) {
 }
 
 /* Makes room for what a step of a slot's command adds to the image and to the cache. It returns false if there is no memory. */
-static bool reserve(struct device *device, uint32_t slot, uint8_t kind) {
+static bool reserve(struct device *device, uint32_t slot, uint8_t kind, struct extent zeros) {
     const struct command *command = &device->tasks[slot].command;
-    if (kind != AHCI_STEP_SERVE)
+    struct cache *cache = &device->cache;
+    if (kind != AHCI_STEP_SERVE && !zeros.sectors)
         return true;
     if (!writeback_reserve(&device->writeback))
         return false;
-    return !command->writes || !device->cache.is_on ||
-           cache_prepare(&device->cache, (uint32_t)command->lba, command->sectors, command->has_fua || !has_cache(device));
+    if (!cache->is_on)
+        return true;
+    if (zeros.sectors)
+        return cache_prepare_zeros(cache, zeros.lba, zeros.sectors, !has_cache(device));
+    return !command->writes || cache_prepare(cache, (uint32_t)command->lba, command->sectors, command->has_fua || !has_cache(device));
 }
 
 void step_take(struct device *device, uint32_t slot) {
-    uint8_t kind = device->state.next[slot];
+    const uint8_t kind = device->state.next[slot];
+    const struct extent zeros = step_zeros(device, slot);
     uint64_t entries = 0;
-    if (!reserve(device, slot, kind)) {
+    if (!reserve(device, slot, kind, zeros)) {
         device_starve(device);
         return;
     }
-    if (step_answers(kind))
+    if (zeros.sectors)
+        history_touch(device, zeros.lba, zeros.sectors);
+    else if (step_answers(device, slot))
         judge_answer(&device->judge, slot);
     uint32_t status = ahci_hba_step(&device->hba, slot, &entries);
     cache_settle(&device->cache, status == AHCI_OK);
@@ -97,6 +118,6 @@ void step_take(struct device *device, uint32_t slot) {
         device->stuck |= UINT32_C(1) << slot;
         return;
     }
-    note_step(device, slot, kind);
+    note_step(device, slot, kind, zeros);
     history_follow(device, entries, kind == AHCI_STEP_RECOVER);
 }

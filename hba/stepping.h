@@ -7,8 +7,16 @@
 
 struct device;
 
-/* Whether a step answers a command. */
-bool step_answers(uint8_t kind);
+/* Sectors of the disk. */
+struct extent {
+    uint32_t lba, sectors;
+};
+
+/* The sectors that the next step of a slot's command makes zeros, one entry of a TRIM; none if that step does something else. */
+struct extent step_zeros(const struct device *device, uint32_t slot);
+
+/* Whether the next step of a slot's command answers it. */
+bool step_answers(const struct device *device, uint32_t slot);
 
 /* Takes the next step with a slot's command. Without memory for it the device waits, and it can be taken again. */
 void step_take(struct device *device, uint32_t slot);
