@@ -14,7 +14,7 @@ import playing
 from harness import FORGETFUL, HERE, PROGRAM, SANITIZED, SECTOR, Guest, blank, contents, environment, linux, makes, way_of
 from images import program
 from power_loss import Loss, judge_losses
-from records import LEFT, LOSS, Record, State
+from records import LEFT, LOSS, ZERO, Record, State
 from suite import Check, Failed, expect
 
 LOSER = os.path.join(HERE, "checks", "loser")
@@ -72,7 +72,7 @@ def changes(folder: str) -> Dict[str, int]:
 
 
 def random_losses(room: str, options: Sequence[str], has_cache: bool, seeds: int, losses: int, sectors: int = 1024) -> str:
-    writes, count = 0, {"changed": 0, "unchanged": 0}
+    writes, trims, count = 0, 0, {"changed": 0, "unchanged": 0}
     for seed in range(1, seeds + 1):
         folder = lost(room, seed, losses, options, sectors=sectors)
         found = judged(folder, losses, has_cache)
@@ -84,14 +84,16 @@ def random_losses(room: str, options: Sequence[str], has_cache: bool, seeds: int
         else:
             playing.far_plays(folder, os.path.join(room, "script"), image, os.path.join(HERE, "out", "play"))
         writes += sum(it.writes for it in found)
+        kinds = [it.kind for it in Record(folder).entries()]
+        trims += kinds[kinds.index(LOSS):].count(ZERO)
         for how, times in changes(folder).items():
             count[how] += times
-    expect(min(count.values()) > 0, f"of {sum(count.values())} losses {count}")
-    return f"{seeds * losses} losses after {writes} writes without a flush; {count['changed']} have changed sectors"
+    expect(min(trims, *count.values()) > 0, f"of {sum(count.values())} losses {count}; {trims} ranges became zeros after the first")
+    return f"{seeds * losses} losses after {writes} writes and trims without a flush; {count['changed']} have changed sectors; {trims} ranges became zeros"
 
 
 def with_cache(room: str) -> str:
-    """A driver writes at random, and the power of a disk with a write cache is lost again and again: what is left is allowed by the rule, the record plays to it, and
+    """A driver writes and trims at random, and the power of a disk with a write cache is lost again and again: what is left is allowed by the rule, the record plays to it, and
     the next controller has it."""
     return random_losses(room, ["--write-cache"], True, 6, 20)
 

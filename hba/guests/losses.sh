@@ -1,4 +1,4 @@
-# After each boot the files are looked at that the disk has kept, and the file system. Then it is filled anew, until the disk loses its power, which a read of its last
+# After each boot the files are looked at that the disk has kept, and the file system. Then it is emptied, which trims, and filled anew, until the disk loses its power, which a read of its last
 # sector brings about, and the machine is reset at once. `fs` of the kernel's command line is the file system. The host ends this.
 echo "CHECK boot"
 if [ "$fs" = xfs ]; then
@@ -12,7 +12,7 @@ ext4) e2fsck -fn /dev/sda > /tmp/said 2>&1 ;;
 xfs) xfs_repair -n /dev/sda > /tmp/said 2>&1 ;;
 esac
 echo "CHECK sound $?"
-mount -t "$fs" /dev/sda /mnt || echo "CHECK failed: second mount"
+mount -t "$fs" -o discard /dev/sda /mnt || echo "CHECK failed: second mount"
 rm -rf /mnt/*
 at=$(($(date +%s) % 100000))
 synced write /mnt $at &
