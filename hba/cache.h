@@ -1,5 +1,5 @@
-/* The writes that no flush has come after, and the sectors that have become zeros since, in the order in which the disk carried them out, and what a loss of power makes of them
-   (../host/README.md, "Power loss"). Nothing is kept unless a script lets the power be lost. */
+/* The writes that no flush has come after, and the sectors that have become zeros since, in the order in which the disk carried them out, and what a
+   loss of power makes of them (../host/README.md, "Power loss"). Nothing is kept unless a script lets the power be lost. */
 #ifndef AHCI_HBA_CACHE_H
 #define AHCI_HBA_CACHE_H
 
@@ -34,7 +34,8 @@ void cache_begin(struct cache *cache, const struct disk *disk, bool is_on);
 /* A write is about to be carried out; `is_certain`: it is on the medium then. It returns false if there is no memory to note that. */
 bool cache_prepare(struct cache *cache, uint32_t lba, uint32_t sectors, bool is_certain);
 
-/* The same of sectors that are about to become zeros. Those that are zeros already are not noted, so that the trim of a sparse disk takes no memory: a loss leaves them as without the trim. */
+/* The same of sectors that are about to become zeros. Those that are zeros already are not noted, so that the trim of a sparse disk takes no memory: a
+   loss leaves them as without the trim. */
 bool cache_prepare_zeros(struct cache *cache, uint32_t lba, uint32_t sectors, bool is_certain);
 
 /* What was prepared is done, or was refused. */

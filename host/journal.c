@@ -117,7 +117,8 @@ static void put_runs(struct writer *to, const struct pages *pages) {
 }
 
 static void put_header(struct writer *to, const struct journal *journal, const struct changes *changes) {
-    const struct header header = {.before = journal->before, .after = journal->after, .runs = journal->runs, .pages = journal->pages, .zero_runs = journal->zero_runs, .zero_pages = journal->zero_pages};
+    const struct header header = {.before = journal->before, .after = journal->after, .runs = journal->runs, .pages = journal->pages,
+                                  .zero_runs = journal->zero_runs, .zero_pages = journal->zero_pages};
     uint8_t *at = room_for(to, sizeof header);
     memcpy(at, &header, sizeof header);
     memcpy(at, journal->zero_runs ? magic_of_zeros : magic, MAGIC);
@@ -177,8 +178,8 @@ static bool is_strange(const struct header *header, uint64_t bytes) {
 /* Whether the header can be that of a journal of so many bytes. A disk has at most 2^29 pages, so no product is too large. */
 static bool is_fit(const struct header *header, const struct journal *journal, uint64_t bytes) {
     const char *right = header->zero_runs ? magic_of_zeros : magic;
-    return !memcmp(header->magic, right, MAGIC) && header->runs <= header->pages && !(header->pages >> 30) && header->zero_runs <= header->zero_pages && !(header->zero_pages >> 30) &&
-           bytes == sum_at(journal) + sizeof(uint64_t);
+    const bool is_small = header->runs <= header->pages && !(header->pages >> 30) && header->zero_runs <= header->zero_pages && !(header->zero_pages >> 30);
+    return !memcmp(header->magic, right, MAGIC) && is_small && bytes == sum_at(journal) + sizeof(uint64_t);
 }
 
 /* Whether the sum at the end is that of all before it. */

@@ -1,8 +1,8 @@
 /* The journal of an image: the pages of a write-back, in a file of their own, which is whole on the disk before the first of them is written into the
    image. A journal that is whole can be written into the image as often as one likes; one that is not is of no use.
 
-   The file has a header, the runs of pages, the runs of pages that become zeros, the bytes of the former, 4,096 a page, from the next multiple of 4,096 on, and a sum of all that. A page that is
-   in runs of both kinds has its bytes. Numbers are those of the machine. */
+   The file has a header, the runs of pages, the runs of pages that become zeros, the bytes of the former, 4,096 a page, from the next multiple of
+   4,096 on, and a sum of all that. A page that is in runs of both kinds has its bytes. Numbers are those of the machine. */
 #ifndef AHCI_HOST_JOURNAL_H
 #define AHCI_HOST_JOURNAL_H
 

@@ -153,8 +153,8 @@ static uint64_t data_of(int file, uint64_t bytes) {
     return high * PAGE_BYTES < bytes ? high * PAGE_BYTES : bytes;
 }
 
-/* The mapping's last page goes on with zeros behind the file's end, and so does the last sector. What a disk over the mapping has behind it is zeros without marks, so zeros that a guest
-   makes there take no memory. */
+/* The mapping's last page goes on with zeros behind the file's end, and so does the last sector. What a disk over the mapping has behind it is zeros
+   without marks, so zeros that a guest makes there take no memory. */
 int mapped_map(struct mapped *mapped) {
     struct image *image = &mapped->image;
     if (!image->path)

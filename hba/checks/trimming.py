@@ -208,7 +208,8 @@ def linux_trims(room: str) -> str:
     guest = Guest(room, ["--image", image, "--model", "INTEL SSD"], linux(room, "trims", data), recorded=image)
     guest.end(240)
     guest.log_is_usual()
-    guest.linux_is_usual([r"ata1\.00: Enabling discard_zeroes_data", r"ata1\.00: ATA-10: INTEL SSD, 1\.0, max UDMA/100", r"scsi 0:0:0:0: Direct-Access     ATA      INTEL SSD        1\.0  PQ: 0 ANSI: 5"])
+    guest.linux_is_usual([r"ata1\.00: Enabling discard_zeroes_data", r"ata1\.00: ATA-10: INTEL SSD, 1\.0, max UDMA/100",
+                          r"scsi 0:0:0:0: Direct-Access     ATA      INTEL SSD        1\.0  PQ: 0 ANSI: 5"])
     told = guest.told()
     for name in ("fstrim", "discard"):
         expect(int(told[f"before_{name}"]) > MARKS // 2 and told[f"after_{name}"] == "0", f"{name}: {told[f'before_{name}']} lines before, {told[f'after_{name}']} after")
@@ -222,5 +223,6 @@ def linux_trims(room: str) -> str:
     return f"{guest.codes().get(6, 0)} trims, {guest.has_recorded}"
 
 
-CHECKS = [Check(small_and_large, title="Trims"), Check(reported, title="Trims, as they are reported"), Check(starved, title="Trims without memory"), Check(unmarked, title="Trims that are not in the image"), Check(killed, title="Trims and a kill"),
-          Check(failing, title="Trims that fail"), Check(all_of_a_large_disk, title="A trim of 2 TiB"), Check(limited, title="Trims and a limit of the record"), Check(linux_trims, title="Linux, trims")]
+CHECKS = [Check(small_and_large, title="Trims"), Check(starved, title="Trims without memory"), Check(reported, title="Trims, as they are reported"),
+          Check(unmarked, title="Trims that are not in the image"), Check(killed, title="Trims and a kill"), Check(failing, title="Trims that fail"),
+          Check(all_of_a_large_disk, title="A trim of 2 TiB"), Check(limited, title="Trims and a limit of the record"), Check(linux_trims, title="Linux, trims")]

@@ -31,7 +31,8 @@ WITHOUT = ["Command lines", "Arguments of QEMU", "Files that can't be written", 
 BARE = ["Garbage", "Memory that never comes", "Reads that fail", "Rules", "Much that is written", "A disk of 2 TiB", "10 GiB that are written", "A limit of the record", "A limit of a slow record",
         "A kill after an answer", "A kill after an answer, with a slow record", "A slow record", "A record without room", "The judge, faults of a driver",
         "The judge, drivers without a fault", "The judge, from a stretch on", "Power losses, with a cache", "Power losses, without a cache", "Power losses, a large disk", "Power losses that are wrong", "Power losses and a kill", "Power losses without an image that can be written",
-        "Power losses, 2,000", "Trims", "Trims without memory", "Trims, as they are reported", "Trims that are not in the image", "Trims and a kill", "Trims that fail", "A trim of 2 TiB", "Trims and a limit of the record"]
+        "Power losses, 2,000", "Trims", "Trims without memory", "Trims, as they are reported", "Trims that are not in the image", "Trims and a kill",
+        "Trims that fail", "A trim of 2 TiB", "Trims and a limit of the record"]
 # these run by the proxy, too
 ALSO = ["SeaBIOS and a boot sector", "SeaBIOS and an error", "Linux, flushes and a kill", "Garbage", "A killed guest", "Rules", "Reads that fail", "A kill after an answer",
         "The judge, faults of a driver", "The judge, drivers without a fault"]
@@ -64,6 +65,7 @@ def ways_of(check: Check, has_new: bool) -> List[Check]:
 
 def checks() -> List[Check]:
     has_new = has_qemu(VFIO_USER)
-    both = [*rough.CHECKS, *recording.CHECKS, *booting.CHECKS, *debian.CHECKS, *judging.CHECKS, *provoked.CHECKS, *recovered.CHECKS, *surviving.CHECKS, *shipped.CHECKS, *firmware.CHECKS, *losing.CHECKS, *others.CHECKS, *tools.CHECKS, *trimming.CHECKS]
+    both = [*rough.CHECKS, *recording.CHECKS, *booting.CHECKS, *debian.CHECKS, *judging.CHECKS, *provoked.CHECKS, *recovered.CHECKS, *surviving.CHECKS, *shipped.CHECKS, *firmware.CHECKS, *losing.CHECKS, *others.CHECKS, *tools.CHECKS,
+            *trimming.CHECKS]
     found = [it for check in both for it in ways_of(check, has_new)] + served.CHECKS
     return found if has_new else [Check(missing_qemu, title="A QEMU with vfio-user"), *found]

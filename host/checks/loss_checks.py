@@ -112,7 +112,8 @@ def far(room: str) -> str:
     """A trim of 32 GiB all over a disk of 2 TiB: what is zeros already needs no memory, and the disk's first sectors are judged as those of a small disk are."""
     sectors = (1 << 32) - 1
     trims = [entry(ZERO, lba=lba, count=65535) for lba in range(0, sectors - 65535, 64 * 65535)]
-    for at, (left, has_cache, is_allowed) in enumerate((("........", True, True), ("o.oo....", True, True), ("bbbbbbbb", True, False), ("........", False, True), ("ooo.oooo", False, False))):
+    found = (("........", True, True), ("o.oo....", True, True), ("bbbbbbbb", True, False), ("........", False, True), ("ooo.oooo", False, False))
+    for at, (left, has_cache, is_allowed) in enumerate(found):
         record = recorded(os.path.join(room, f"far{at}"), [*trims, entry(LOSS), entry(LEFT, count=SECTORS, data=letters(left))], sectors)
         losses = judge_losses(record, has_cache)
         expect(len(losses) == 1 and (not losses[0].fault) == is_allowed, f"{left} with{'' if has_cache else 'out'} a cache: {losses}")

@@ -115,7 +115,8 @@ def zeroed(room: str) -> str:
     expect(after <= before - 8 * 870, f"zeros took {after} blocks, and there were {before}")
     made(image, 4 * MIB)
     words = ["strace", "-f", "-o", "/dev/null", "-e", "inject=fallocate:error=EOPNOTSUPP", PROBE, "mapped", image, "8200"]
-    done = pace.ran(words, SECONDS, input="".join(f"{line(it)}\n" for it in fills), stdout=subprocess.PIPE, stderr=subprocess.PIPE, text=True, env={**os.environ, "ASAN_OPTIONS": "detect_leaks=0"})
+    done = pace.ran(words, SECONDS, input="".join(f"{line(it)}\n" for it in fills), stdout=subprocess.PIPE, stderr=subprocess.PIPE, text=True,
+                    env={**os.environ, "ASAN_OPTIONS": "detect_leaks=0"})
     expect(done.returncode == 0 and contents(image) == filled(data, *fills) + bytes(8 * 512), f"without holes the image has other sectors: {done.stderr}")
     return f"{before} blocks before, {after} after"
 
@@ -331,5 +332,5 @@ def killed_at_random(room: str) -> str:
     return ", ".join(f"{count} {what}" for what, count in counts.items())
 
 
-CHECKS = [Check(runs), Check(sizes_of_mapped), Check(in_place), Check(zeroed, ["strace"]), Check(one_server), Check(a_left_journal), Check(mapped_beyond_a_limit), Check(no_room_for_a_journal, ["mount"]),
-          Check(shorter_and_replaced), Check(killed_at_each_call, ["strace"]), Check(killed_at_random)]
+CHECKS = [Check(runs), Check(sizes_of_mapped), Check(in_place), Check(zeroed, ["strace"]), Check(one_server), Check(a_left_journal), Check(mapped_beyond_a_limit),
+          Check(no_room_for_a_journal, ["mount"]), Check(shorter_and_replaced), Check(killed_at_each_call, ["strace"]), Check(killed_at_random)]
