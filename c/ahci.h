@@ -662,8 +662,10 @@ uint32_t ahci_hba_write_cache(ahci_hba *hba, uint32_t supported);
    SET FEATURES 82h, which disables it, wants them stored, and then each write before it is answered (ACS-3, "SET FEATURES"). Doesn't allocate. */
 uint32_t ahci_hba_write_cache_enabled(ahci_hba *hba, uint32_t *enabled);
 
-/* Sectors that DATA SET MANAGEMENT with TRIM names read as zeros from now on, or it is advice that changes no sector if `supported` is 0, as of a new disk. IDENTIFY DEVICE reports it (ACS-3, word 69: DRAT, bit 14, and RZAT,
-   bit 5), and so does page 03h of log 30h. No reset and no power cycle changes it, and another disk that is plugged in has it as the one before. */
+/* The sectors that DATA SET MANAGEMENT with TRIM names read as zeros from now on, or it is advice that changes no sector if `supported` is 0, as for a new disk. IDENTIFY DEVICE reports
+   it (ACS-3, word 69: DRAT and RZAT), and so does page 03h of log 30h. No reset and no power cycle changes it, and another disk that is plugged in has it as the one before.
+   Such a TRIM takes a step AHCI_STEP_EXECUTE for each range that names sectors, in the order of its data: the step makes them zeros, is an entry AHCI_EVENT_ZERO of the journal, and
+   ends that they can't be read if WRITE UNCORRECTABLE EXT has marked them. One more step answers the command. Doesn't allocate. */
 uint32_t ahci_hba_trim_zeros(ahci_hba *hba, uint32_t supported);
 
 /* Events: what the link, the disk and the interface do by themselves, each at any time (chapter 6, and 7, "Hot Plug Operation"). *entries as by a reset.
@@ -729,8 +731,8 @@ uint32_t ahci_hba_spoiled(ahci_hba *hba);
    AHCI_OUT_OF_MEMORY: the step can be taken again. */
 uint32_t ahci_hba_step(ahci_hba *hba, uint32_t slot, uint64_t *entries);
 
-/* The sectors that the next step of a slot's command makes zeros, if it is a TRIM that does so: the first of them and how many. *sectors is 0 if that step makes none zeros. */
-uint32_t ahci_hba_trim_range(const ahci_hba *hba, uint32_t slot, uint64_t *lba, uint32_t *sectors);
+/* The sectors that this step makes zeros, if it is one of a TRIM that does so: *lba is the first of them, and *sectors how many, else 0. AHCI_BAD_TAG. Doesn't allocate. */
+uint32_t ahci_hba_trim_range(ahci_hba *hba, uint32_t slot, uint64_t *lba, uint32_t *sectors);
 
 /* The disk fails a command that it has accepted with an error byte at one of its sectors, if the command is queued: a Set Device Bits FIS
    with ERR. Log 10h names that sector, and a driver takes the command's sectors before it as moved: Linux completes their requests. A read

@@ -5,7 +5,6 @@
 #include "log.h"
 #include "moving.h"
 #include "say.h"
-#include "stepping.h"
 
 #include <inttypes.h>
 #include <stdio.h>
@@ -30,6 +29,7 @@ void device_must(const char *call, uint32_t status) {
 
 void device_look(struct device *device) {
     device_must("ahci_hba_look", ahci_hba_look(&device->hba, &device->state));
+    step_look(device);
     provoke_signature(device);
 }
 

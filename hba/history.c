@@ -2,7 +2,6 @@
 
 #include "device.h"
 #include "log.h"
-#include "stepping.h"
 
 #include <inttypes.h>
 #include <poll.h>
@@ -179,7 +178,7 @@ static bool is_large(const struct device *device) {
 static bool lacks_room(const struct device *device, uint32_t slot) {
     const struct command *command = &device->tasks[slot].command;
     const bool sends = device->state.next[slot] == AHCI_STEP_SEND;
-    const uint32_t zeros = step_zeros(device, slot).sectors;
+    const uint32_t zeros = device->zeros[slot].sectors;
     if (!sends && !zeros)
         return false;
     return !scribe_has_room(&device->history.scribe, record_bytes_of(device->disk.sectors, sends && command->writes, sends ? command->sectors : zeros));

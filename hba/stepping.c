@@ -7,18 +7,20 @@
 
 #define WRITE_UNCORRECTABLE_EXT 0x45
 
-struct extent step_zeros(const struct device *device, uint32_t slot) {
-    uint64_t lba = 0;
-    uint32_t sectors = 0;
-    if (device->state.next[slot] == AHCI_STEP_EXECUTE)
-        device_must("ahci_hba_trim_range", ahci_hba_trim_range(&device->hba, slot, &lba, &sectors));
-    return (struct extent){.lba = (uint32_t)lba, .sectors = sectors};
+void step_look(struct device *device) {
+    for (uint32_t slot = 0; slot < AHCI_MOST_TAGS; slot++) {
+        uint64_t lba = 0;
+        uint32_t sectors = 0;
+        if (device->state.next[slot] == AHCI_STEP_EXECUTE)
+            device_must("ahci_hba_trim_range", ahci_hba_trim_range(&device->hba, slot, &lba, &sectors));
+        device->zeros[slot] = (struct extent){.lba = (uint32_t)lba, .sectors = sectors};
+    }
 }
 
 /* A step that makes sectors zeros comes before the one that answers the TRIM. */
 bool step_answers(const struct device *device, uint32_t slot) {
     const uint8_t kind = device->state.next[slot];
-    return kind == AHCI_STEP_SERVE || (kind == AHCI_STEP_EXECUTE && !step_zeros(device, slot).sectors);
+    return kind == AHCI_STEP_SERVE || (kind == AHCI_STEP_EXECUTE && !device->zeros[slot].sectors);
 }
 
 /* Whether a flush was carried out, and not aborted: it is the journal's newest entry then. */
@@ -97,7 +99,7 @@ static bool reserve(struct device *device, uint32_t slot, uint8_t kind, struct e
 
 void step_take(struct device *device, uint32_t slot) {
     const uint8_t kind = device->state.next[slot];
-    const struct extent zeros = step_zeros(device, slot);
+    const struct extent zeros = device->zeros[slot];
     uint64_t entries = 0;
     if (!reserve(device, slot, kind, zeros)) {
         device_starve(device);

@@ -12,8 +12,8 @@ struct extent {
     uint32_t lba, sectors;
 };
 
-/* The sectors that the next step of a slot's command makes zeros, one entry of a TRIM; none if that step does something else. */
-struct extent step_zeros(const struct device *device, uint32_t slot);
+/* Looks at which sectors the next step of each slot's command makes zeros (`zeros` of the device). */
+void step_look(struct device *device);
 
 /* Whether the next step of a slot's command answers it. */
 bool step_answers(const struct device *device, uint32_t slot);

@@ -4,6 +4,7 @@ from __future__ import annotations
 import hashlib
 import json
 import os
+import re
 import subprocess
 from typing import Any, List, NamedTuple, Sequence, Tuple
 
@@ -11,14 +12,15 @@ import pace
 import playing
 from harness import HERE, PROGRAM, SANITIZED, SECTOR, STARVED, UNMARKED, Guest, blank, contents, digest, environment, file_of_ext4, linux, makes, way_of
 from images import pattern
-from records import ZERO, Record
+from records import WRITE, ZERO, Record
 from rough import STARVES
 from suite import Check, expect
 
 TRIMMER = os.path.join(HERE, "checks", "trimmer")
 SMALL, LARGE = 8192, 140_000  # sectors of a disk that is in memory, and of one that is over its image
 AREA = 8192  # sectors that are not zeros at first
-ABORTED, NOT_THERE = 0x04, 0x14  # error bytes (ACS-3, "Error field"): ABRT; IDNF and ABRT
+ABORTED = 0x04  # the error byte of a command that is aborted: ABRT alone (ACS-3, "Error field"), as of a trim with a range that is not on the disk ("DATA SET MANAGEMENT")
+DRAT_AND_RZAT = 1 << 14 | 1 << 5  # of word 69 of IDENTIFY DEVICE
 Ranges = Sequence[Tuple[int, int]]
 
 
@@ -35,7 +37,7 @@ def trim(entries: Ranges, error: int = 0) -> Step:
 def steps_of(sectors: int) -> List[Step]:
     """Trims of a disk, and a write into what was trimmed. Of those that fail no sector changes."""
     return [trim([(100, 8)]), trim([(300, 0), (310, 1), (305, 10), (17, 70)]), trim([(16 * at + 1, 3) for at in range(100, 228)]), trim([(0, 0)]), trim([(sectors - 5, 5)]),
-            trim([(400, 8), (sectors - 4, 5)], NOT_THERE), trim([(400, 8), ((1 << 48) - 1, 1)], NOT_THERE), trim([(408, 8), (sectors, 0)]), Step(["write", 103, 2, 0x5A]),
+            trim([(400, 8), (sectors - 4, 5)], ABORTED), trim([(400, 8), ((1 << 48) - 1, 1)], ABORTED), trim([(408, 8), (sectors, 0)]), Step(["write", 103, 2, 0x5A]),
             trim([(5000, 3000), (5100, 50)]), Step(["write", 6001, 1, 0xA5]), Step(["read", 0, AREA]), Step(["flush"])]
 
 
@@ -127,9 +129,10 @@ def starved(room: str) -> str:
 
 def reported(room: str) -> str:
     """IDENTIFY DEVICE: word 169 has TRIM in any case, and bits 14 (DRAT) and 5 (RZAT) of word 69 are 1 if trimmed sectors are zeros (ACS-3, "IDENTIFY DEVICE")."""
-    for options, word in (((), "4020"), (("--trim", "zeros"), "4020"), (("--trim", "advice"), "0000")):
+    for options, bits in (((), DRAT_AND_RZAT), (("--trim", "zeros"), DRAT_AND_RZAT), (("--trim", "advice"), 0)):
         found = driven(room, ["--sectors", "8", *options], [Step(["word", 69]), Step(["word", 169])])
-        expect(found == [f"word {word}", "word 0001"], f"{options}: {found}")
+        word = re.fullmatch(r"word ([0-9a-f]{4})", found[0])
+        expect(word is not None and int(word[1], 16) & DRAT_AND_RZAT == bits and found[1] == "word 0001", f"{options}: {found}")
     return "words 69 and 169"
 
 
@@ -197,27 +200,27 @@ def limited(room: str) -> str:
 
 # ---- Linux
 
-MARK = b"this was trimmed\n"  # a line of the file that is removed,
-MARKS = 1 << 20  # and how many it has
+MARK, MARKS = b"this was trimmed\n", 1 << 19  # the line of the two files that are removed, and how many each has
 
 
 def linux_trims(room: str) -> str:
-    """Linux makes ext4 and discards what a file had that is removed, by fstrim, and by itself when mounted with `discard`: nothing of it is left, in the guest and in the image, and the other
-    file stays. Of a model that it trusts Linux makes sectors zeros by a trim."""
-    data, image = pattern(4 << 20, "kept"), blank(room, 131072)
-    guest = Guest(room, ["--image", image, "--model", "INTEL SSD"], linux(room, "trims", data), recorded=image)
+    """Linux makes ext4 and discards what a file had that is removed, by fstrim, and by itself when mounted with `discard`: nothing of it is left, in the guest and in the image, and the
+    other file stays. blkdiscard makes a MiB zeros, and those beside it stay."""
+    data, image = pattern(1 << 20, "kept"), blank(room, 65536)
+    guest = Guest(room, ["--image", image], linux(room, "trims", data), recorded=image)
     guest.end(240)
     guest.log_is_usual()
-    guest.linux_is_usual([r"ata1\.00: Enabling discard_zeroes_data", r"ata1\.00: ATA-10: INTEL SSD, 1\.0, max UDMA/100",
-                          r"scsi 0:0:0:0: Direct-Access     ATA      INTEL SSD        1\.0  PQ: 0 ANSI: 5"])
+    guest.linux_is_usual()
     told = guest.told()
+    written = sum(bytes(it.data).count(MARK) for it in Record(guest.record_path).entries() if it.kind == WRITE)
+    expect(written > MARKS, f"Linux has written {written} lines of two files that have {MARKS} each")
     for name in ("fstrim", "discard"):
-        expect(int(told[f"before_{name}"]) > MARKS // 2 and told[f"after_{name}"] == "0", f"{name}: {told[f'before_{name}']} lines before, {told[f'after_{name}']} after")
+        expect(told[f"left_{name}"] == "0", f"after {name} {told[f'left_{name}']} lines are left")
         expect(told[f"kept_{name}"].split()[0] == digest(data), f"after {name} the file that stays is another")
     zeros = [(it.lba, it.count) for it in Record(guest.record_path).entries() if it.kind == ZERO]
-    expect(told["zeroed"].split()[0] == digest(bytes(1 << 20)) and zeros[-1] == (62 << 11, 1 << 11), f"zeros: {told['zeroed']}, the last trim of {zeros[-1]}")
+    expect(told["discarded"].split()[0] == digest(bytes(1 << 20)) and zeros[-1] == (30 << 11, 1 << 11), f"blkdiscard: {told['discarded']}, the last trim of {zeros[-1]}")
     found = contents(image)
-    expect(found[61 << 20:] == data[:1 << 20] + bytes(1 << 20) + data[2 << 20:3 << 20], "the image has not what was written beside the zeros")
+    expect(found[29 << 20:] == data + bytes(1 << 20) + data, "the image has not what was written beside what was discarded")
     expect(MARK not in found and told["disk"].split()[0] == digest(found), "the image has what was trimmed, or other sectors than Linux has read")
     expect(file_of_ext4(room, image, "kept") == data, "the image has another file")
     return f"{guest.codes().get(6, 0)} trims, {guest.has_recorded}"
