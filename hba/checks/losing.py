@@ -238,16 +238,17 @@ def faults_of(rounds: Sequence[Round]) -> List[str]:
 
 
 def survives(room: str, system: str, times: int, seed: int) -> str:
-    rounds = filled(room, system, times, seed)
+    rounds, record = filled(room, system, times, seed), Record(os.path.join(room, "record"))
     wrong, files = faults_of(rounds), sum(len(it.synced) for it in rounds[:-1])
-    wrong += faults(judge_losses(Record(os.path.join(room, "record")), True))
+    wrong += faults(judge_losses(record, True))
+    trims = sum(it.kind == ZERO for it in record.entries())
     expect(not wrong, f"from seed {seed} on: {'; '.join(wrong[:3])}")
-    expect(files >= times, f"only {files} files were synced before {times} losses")
-    return f"{times} losses, {files} files that were synced are right"
+    expect(files >= times and trims > 0, f"only {files} files were synced before {times} losses, and {trims} ranges trimmed")
+    return f"{times} losses, {files} files that were synced are right, {trims} ranges were trimmed"
 
 
 def ext4(room: str) -> str:
-    """Linux fills ext4, and the disk loses its power under it, three times: the file system is sound, by its own journal and by e2fsck, each file that was synced is right, and what was left
+    """Linux fills ext4 and removes what was there, which trims, and the disk loses its power under it, three times: the file system is sound, by its own journal and by e2fsck, each file that was synced is right, and what was left
     is allowed by the record."""
     return survives(room, "ext4", 3, 1)
 
