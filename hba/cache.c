@@ -1,6 +1,7 @@
 #include "cache.h"
 
 #include "generator.h"
+#include "touched.h"
 
 #include <stdlib.h>
 #include <string.h>
@@ -23,14 +24,24 @@ static uint8_t *after(struct cached *it) {
     return it->bytes + bytes_of(it->sectors);
 }
 
+/* A write, or a run of zeros, without its bytes; NULL if there is no memory. */
+static struct cached *empty(uint32_t lba, uint32_t sectors, bool is_zeros) {
+    struct cached *it = malloc(sizeof *it + (is_zeros ? 1 : 2) * bytes_of(sectors));
+    if (it)
+        *it = (struct cached){.lba = lba, .sectors = sectors, .is_zeros = is_zeros};
+    return it;
+}
+
+static void copy_sectors(const struct cache *cache, const struct cached *it, uint8_t *to) {
+    for (uint32_t at = 0; at < it->sectors; at++)
+        cache->disk->copy(cache->disk->it, it->lba + at, to + bytes_of(at));
+}
+
 /* A write whose sectors are as they are before it; NULL if there is no memory. */
 static struct cached *made(const struct cache *cache, uint32_t lba, uint32_t sectors) {
-    struct cached *it = malloc(sizeof *it + 2 * bytes_of(sectors));
-    if (!it)
-        return NULL;
-    *it = (struct cached){.lba = lba, .sectors = sectors};
-    for (uint32_t at = 0; at < sectors; at++)
-        cache->disk->copy(cache->disk->it, lba + at, it->bytes + bytes_of(at));
+    struct cached *it = empty(lba, sectors, false);
+    if (it)
+        copy_sectors(cache, it, it->bytes);
     return it;
 }
 
@@ -66,16 +77,48 @@ bool cache_prepare(struct cache *cache, uint32_t lba, uint32_t sectors, bool is_
     return true;
 }
 
-void cache_settle(struct cache *cache, bool is_done) {
+/* Notes a run of sectors that become zeros and are none. */
+static int prepare_run(void *of, uint32_t lba, uint32_t count, const uint8_t *bytes) {
+    struct cache *cache = of;
+    struct cached *it = empty(lba, count, true);
+    if (!it)
+        return -1;
+    memcpy(it->bytes, bytes, bytes_of(count));
+    it->next = cache->coming;
+    cache->coming = it;
+    return 0;
+}
+
+bool cache_prepare_zeros(struct cache *cache, uint32_t lba, uint32_t sectors, bool is_certain) {
+    if (!cache->is_on)
+        return true;
+    const bool has_memory = !sectors_take(cache->disk, lba, lba + sectors, prepare_run, cache);
+    if (!has_memory)
+        cache_settle(cache, false);
+    for (struct cached *it = cache->coming; it; it = it->next)
+        it->is_certain = is_certain;
+    return has_memory;
+}
+
+/* Takes what was prepared from `coming`. */
+static struct cached *take_coming(struct cache *cache) {
     struct cached *it = cache->coming;
-    cache->coming = NULL;
-    if (!it || !is_done) {
-        free(it);
-        return;
+    cache->coming = it->next;
+    it->next = NULL;
+    return it;
+}
+
+void cache_settle(struct cache *cache, bool is_done) {
+    while (cache->coming) {
+        struct cached *it = take_coming(cache);
+        if (!is_done) {
+            free(it);
+            continue;
+        }
+        if (!it->is_zeros)
+            copy_sectors(cache, it, after(it));
+        append(cache, it);
     }
-    for (uint32_t at = 0; at < it->sectors; at++)
-        cache->disk->copy(cache->disk->it, it->lba + at, after(it) + bytes_of(at));
-    append(cache, it);
     forget_certain(cache);
 }
 
@@ -134,7 +177,11 @@ static void copy_left(void *of, uint32_t lba, uint8_t *sector) {
         if (!is_touched)
             memcpy(sector, it->bytes + bytes_of(at), SECTOR_BYTES);
         is_touched = true;
-        if (at >= it->kept && at < it->end)
+        if (at < it->kept || at >= it->end)
+            continue;
+        if (it->is_zeros)
+            memset(sector, 0, SECTOR_BYTES);
+        else
             memcpy(sector, after(it) + bytes_of(at), SECTOR_BYTES);
     }
     if (!is_touched)

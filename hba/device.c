@@ -11,7 +11,6 @@
 #include <stdlib.h>
 #include <time.h>
 
-#define WRITE_UNCORRECTABLE_EXT 0x45
 #define SECOND UINT64_C(1000000000)
 #define RETRY_MILLISECONDS 10 /* until a step that got no memory is tried again */
 
@@ -30,6 +29,7 @@ void device_must(const char *call, uint32_t status) {
 
 void device_look(struct device *device) {
     device_must("ahci_hba_look", ahci_hba_look(&device->hba, &device->state));
+    step_look(device);
     provoke_signature(device);
 }
 
@@ -66,11 +66,6 @@ struct choice {
     uint64_t soonest; /* when the first slow command can go on, or UINT64_MAX */
 };
 
-/* Whether a step answers a command. */
-static bool is_answer(uint8_t kind) {
-    return kind == AHCI_STEP_SERVE || kind == AHCI_STEP_EXECUTE;
-}
-
 static struct choice choice_of(const struct device *device) {
     struct choice choice = {.soonest = UINT64_MAX};
     uint64_t then = script_has(device->settings->script, EVENT_SLOW) ? device_now() : UINT64_MAX;
@@ -85,7 +80,7 @@ static struct choice choice_of(const struct device *device) {
             choice.soonest = ready < choice.soonest ? ready : choice.soonest;
         else if (kind == AHCI_STEP_SEND)
             sends |= bit;
-        else if (is_answer(kind))
+        else if (step_answers(device, slot))
             choice.answers |= bit;
         else
             choice.early |= bit;
@@ -122,104 +117,14 @@ static bool choose(struct device *device, uint32_t *slot) {
     return true;
 }
 
-/* ---- steps ---- */
-
-/* Whether a flush was carried out, and not aborted: it is the journal's newest entry then. */
-static bool has_flushed(struct device *device) {
-    ahci_state queue;
-    ahci_entry newest;
-    device_must("ahci_hba_port", ahci_hba_port(&device->hba, &queue));
-    return queue.next > queue.first && ahci_hba_entry(&device->hba, queue.next - 1, &newest) == AHCI_OK && newest.kind == AHCI_EVENT_FLUSH;
-}
-
-/* Whether the disk has a write cache that is enabled: SET FEATURES and resets change that. */
-static bool has_cache(struct device *device) {
-    uint32_t enabled;
-    device_must("ahci_hba_write_cache_enabled", ahci_hba_write_cache_enabled(&device->hba, &enabled));
-    return enabled;
-}
-
-/* A command was carried out that may have flushed the cache: FLUSH CACHE does, and so does SET FEATURES 82h, which disables it. */
-static void note_flush(struct device *device, const struct command *command) {
-    if (device->cache.is_on && ((command->flushes && has_flushed(device)) || !has_cache(device)))
-        cache_flush(&device->cache);
-}
-
-/* A queued read may have failed at a sector that WRITE UNCORRECTABLE EXT has marked. */
-static void note_marked(struct device *device, uint32_t slot) {
-    ahci_entry entry;
-    if (!device->marks || !history_has_failed(device, slot, &entry))
-        return;
-    log_line("fail %" PRIu32 " with %02" PRIx32 " at sector %" PRIu64 ", which is marked uncorrectable", slot, entry.error, entry.lba);
-    recovery_event(&device->judge, &device->hba, EVENT_FAIL, 0, slot);
-    provoke_answer(device, slot);
-}
-
-/* What the library's step of a slot means here. */
-static void note_step(struct device *device, uint32_t slot, uint8_t kind) {
-    struct task *task = &device->tasks[slot];
-    history_count(device, slot, kind);
-    if (kind == AHCI_STEP_FETCH) {
-        device->reading = slot;
-        device->runs = 0;
-        *task = (struct task){.number = 0};
-        judge_fetch(&device->judge, slot);
-    }
-    if (kind == AHCI_STEP_DELIVER || kind == AHCI_STEP_EXECUTE || kind == AHCI_STEP_RECOVER) {
-        device->answered = slot;
-        provoke_answer(device, slot);
-    }
-    if (kind == AHCI_STEP_SERVE && task->command.writes)
-        mapped_wrote(&device->settings->mapped, (uint32_t)task->command.lba, task->command.sectors);
-    if (kind == AHCI_STEP_SERVE && task->command.queued && !task->command.writes)
-        note_marked(device, slot);
-    if (kind == AHCI_STEP_EXECUTE) {
-        device->marks |= task->command.code == WRITE_UNCORRECTABLE_EXT;
-        note_flush(device, &task->command);
-    }
-}
-
-/* Makes room for what a step of a slot's command adds to the image and to the cache. It returns false if there is no memory. */
-static bool reserve(struct device *device, uint32_t slot, uint8_t kind) {
-    const struct command *command = &device->tasks[slot].command;
-    if (kind != AHCI_STEP_SERVE)
-        return true;
-    if (!writeback_reserve(&device->writeback))
-        return false;
-    return !command->writes || !device->cache.is_on ||
-           cache_prepare(&device->cache, (uint32_t)command->lba, command->sectors, command->has_fua || !has_cache(device));
-}
-
-static void take_step(struct device *device, uint32_t slot) {
-    uint8_t kind = device->state.next[slot];
-    uint64_t entries = 0;
-    if (!reserve(device, slot, kind)) {
-        device_starve(device);
-        return;
-    }
-    if (is_answer(kind))
-        judge_answer(&device->judge, slot);
-    uint32_t status = ahci_hba_step(&device->hba, slot, &entries);
-    cache_settle(&device->cache, status == AHCI_OK);
-    if (status == AHCI_OUT_OF_MEMORY) {
-        device_starve(device);
-        return;
-    }
-    if (status != AHCI_OK) {
-        log_line("step %d of slot %" PRIu32 " was refused: status %" PRIu32, kind, slot, status);
-        device->stuck |= UINT32_C(1) << slot;
-        return;
-    }
-    note_step(device, slot, kind);
-    history_follow(device, entries, kind == AHCI_STEP_RECOVER);
-}
+/* ---- the turn ---- */
 
 /* Takes the next step with a slot's command, or fails it. */
 static void go_on(struct device *device, uint32_t slot) {
     if (fate_fails(device, slot))
         history_follow(device, 0, false);
     else
-        take_step(device, slot);
+        step_take(device, slot);
 }
 
 static bool can_sign(const struct device *device) {
@@ -368,6 +273,7 @@ int device_make(struct device *device) {
     if (status == AHCI_OK) {
         device_must("ahci_hba_identity", ahci_hba_identity(&device->hba, &settings->identity));
         device_must("ahci_hba_write_cache", ahci_hba_write_cache(&device->hba, settings->write_cache));
+        device_must("ahci_hba_trim_zeros", ahci_hba_trim_zeros(&device->hba, settings->trim_zeros));
         return 0;
     }
     say("the controller can't be made: status %" PRIu32 " of ahci.h", status);

@@ -13,6 +13,7 @@
 #include "provoke.h"
 #include "settings.h"
 #include "slow.h"
+#include "stepping.h"
 #include "writeback.h"
 
 #include <ahci.h>
@@ -39,6 +40,7 @@ struct device {
     struct memory *memory; /* the guest's */
     ahci_hba hba;
     ahci_hba_state state;  /* what the controller does next */
+    struct extent zeros[AHCI_MOST_TAGS]; /* by slot: the sectors that its next step makes zeros, those of one entry of a TRIM; none of most steps */
     struct disk disk;      /* its sectors, for the image and the record */
     bool is_over;          /* the disk is over the image, and not in memory as a whole */
     bool is_out;           /* it is pulled out */

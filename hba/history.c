@@ -27,9 +27,13 @@ static void put_command(struct device *device, const ahci_entry *entry) {
     history->owned |= UINT32_C(1) << entry->tag;
 }
 
-/* Sectors became zeros. They are by now, so of a large disk's pages the record has what is left of them. */
-static void put_zeros(struct device *device, const ahci_entry *entry) {
-    scribe_put_command(&device->history.scribe, &device->disk, (struct record_entry){.kind = RECORD_ZERO, .count = entry->sectors, .lba = entry->lba}, 0);
+void history_touch(struct device *device, uint32_t lba, uint32_t sectors) {
+    scribe_touch(&device->history.scribe, &device->disk, lba, sectors);
+}
+
+/* Sectors became zeros. Their pages were touched before that. */
+static void put_zeros(struct history *history, const ahci_entry *entry) {
+    scribe_put(&history->scribe, (struct record_entry){.kind = RECORD_ZERO, .count = entry->sectors, .lba = entry->lba}, 0);
 }
 
 /* A command is served: its tag is behind the entry. */
@@ -63,7 +67,7 @@ static void put_entry(struct device *device, const ahci_entry *entry) {
         put_failed(history, entry);
         break;
     case AHCI_EVENT_ZERO:
-        put_zeros(device, entry);
+        put_zeros(history, entry);
         break;
     default:
         put_tag(history, kinds[entry->kind], entry->tag);
@@ -170,13 +174,21 @@ static bool is_large(const struct device *device) {
     return device->history.bytes >= device->settings->most_journal;
 }
 
-/* Whether the record's part has no room for a command of some slots. */
+/* Whether the next step of a slot's command sends a command or makes sectors zeros, and the record's part has no room for it. */
+static bool lacks_room(const struct device *device, uint32_t slot) {
+    const struct command *command = &device->tasks[slot].command;
+    const bool sends = device->state.next[slot] == AHCI_STEP_SEND;
+    const uint32_t zeros = device->zeros[slot].sectors;
+    if (!sends && !zeros)
+        return false;
+    return !scribe_has_room(&device->history.scribe, record_bytes_of(device->disk.sectors, sends && command->writes, sends ? command->sectors : zeros));
+}
+
+/* Whether the record's part has no room for the next steps of some slots. */
 static bool is_full(const struct device *device, uint32_t slots) {
-    for (; slots; slots &= slots - 1) {
-        const struct command *command = &device->tasks[__builtin_ctz(slots)].command;
-        if (!scribe_has_room(&device->history.scribe, record_bytes_of(device->disk.sectors, command->writes, command->sectors)))
+    for (; slots; slots &= slots - 1)
+        if (lacks_room(device, (uint32_t)__builtin_ctz(slots)))
             return true;
-    }
     return false;
 }
 
@@ -209,10 +221,7 @@ bool history_trim(struct device *device) {
 
 bool history_settle(struct device *device) {
     struct scribe *scribe = &device->history.scribe;
-    uint32_t sends = 0;
-    for (uint32_t slot = 0; slot < AHCI_MOST_TAGS; slot++)
-        sends |= (uint32_t)(device->state.next[slot] == AHCI_STEP_SEND) << slot;
-    bool is_part_full = is_full(device, sends);
+    bool is_part_full = is_full(device, UINT32_MAX);
     if ((!is_large(device) && !is_part_full) || !is_idle(device))
         return true;
     if (is_large(device))

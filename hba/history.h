@@ -23,6 +23,9 @@ struct history {
 /* Begins the record. It returns 0, or -1 once it has printed why. */
 int history_begin(struct device *device);
 
+/* The record gets the pages of a large disk that sectors are in which become zeros by the next step. */
+void history_touch(struct device *device, uint32_t lba, uint32_t sectors);
+
 /* Counts what the step of a slot's command has added to the journal. */
 void history_count(struct device *device, uint32_t slot, uint8_t step);
 

@@ -6,7 +6,8 @@
 #define PIECE 256 /* pages that are copied at once: 1 MiB */
 
 bool page_copy_begin(struct page_copy *copy, const struct disk *disk, const struct pages *pages, uint64_t count) {
-    *copy = (struct page_copy){.disk = disk, .pages = pages, .bytes = malloc((size_t)count * PAGE_BYTES)};
+    const size_t bytes = count ? (size_t)count * PAGE_BYTES : 1; /* NULL means that there is no memory */
+    *copy = (struct page_copy){.disk = disk, .pages = pages, .bytes = malloc(bytes)};
     return copy->bytes;
 }
 

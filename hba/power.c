@@ -52,7 +52,7 @@ static bool take_pages(const struct cache *cache, struct pages *pages) {
 static bool write_left(struct mapped *mapped, const struct disk *left, const struct pages *pages) {
     if (!mapped_reserve(mapped, pages->count))
         return false;
-    pages_append(&mapped->changed, pages);
+    pages_append(&mapped->changes.written, pages);
     return !mapped_write(mapped, left);
 }
 

@@ -69,10 +69,12 @@ static int put_old(void *it, uint32_t lba, uint32_t count, const uint8_t *bytes)
     return 0;
 }
 
+bool scribe_touch(struct scribe *scribe, const struct disk *disk, uint64_t lba, uint32_t sectors) {
+    return scribe->is_on && !touched_take(&scribe->record.touched, disk, lba, sectors, put_old, scribe);
+}
+
 uint8_t *scribe_put_command(struct scribe *scribe, const struct disk *disk, struct record_entry entry, size_t bytes) {
-    if (!scribe->is_on || touched_take(&scribe->record.touched, disk, entry.lba, entry.count, put_old, scribe))
-        return NULL;
-    return scribe_put(scribe, entry, bytes);
+    return scribe_touch(scribe, disk, entry.lba, entry.count) ? scribe_put(scribe, entry, bytes) : NULL;
 }
 
 static bool has_more(const struct scribe *scribe) {

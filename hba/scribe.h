@@ -41,7 +41,10 @@ int scribe_begin(struct scribe *scribe, const char *folder, uint64_t limit, cons
    lack of memory. */
 uint8_t *scribe_put(struct scribe *scribe, struct record_entry entry, size_t bytes);
 
-/* The same for a command that can't have changed the disk yet. Sectors of a large disk that it touches first come before it: they are read now. */
+/* Appends the pages of a large disk that a command touches first, before it changes them: they are read now. It returns false if the record has ended. */
+bool scribe_touch(struct scribe *scribe, const struct disk *disk, uint64_t lba, uint32_t sectors);
+
+/* scribe_touch and scribe_put of a command that can't have changed the disk yet. */
 uint8_t *scribe_put_command(struct scribe *scribe, const struct disk *disk, struct record_entry entry, size_t bytes);
 
 /* Gives the thread what there is, if it is idle and there is much, or if it `must` be written soon. */

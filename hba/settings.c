@@ -60,7 +60,9 @@ static const char help[] =
     "      --write-cache            The disk has a volatile write cache, which IDENTIFY DEVICE reports, so that the guest flushes it: with --sync\n"
     "                               flush the image has then what the guest has flushed. A power_loss of a script may lose writes that were\n"
     "                               answered, unless a flush came after them, they have FUA, or the\n"
-      "                               guest had disabled the cache\n"
+    "                               guest had disabled the cache\n"
+    "      --trim HOW               What DATA SET MANAGEMENT with TRIM does: the sectors that it names are zeros, which IDENTIFY DEVICE reports\n"
+    "                               (zeros), or they stay as they are (advice) (default zeros)\n"
     "      --pick WHICH             The command that the device goes on with: low, high or random slot (default low)\n"
     "      --seed N                 The seed of --pick random (default 1)\n"
     "      --fail WHERE:EE[:COUNT][,CONDITION]..\n"
@@ -120,6 +122,14 @@ static int take_sync(const char *text, enum sync *sync) {
     return wrong;
 }
 
+static int take_trim(const char *text, bool *zeros) {
+    static const char *const words[] = {"advice", "zeros", NULL};
+    unsigned place = 0;
+    int wrong = option_word("trim", text, words, "zeros or advice", &place);
+    *zeros = place;
+    return wrong;
+}
+
 static int take_way(const char *text, enum way *way) {
     static const char *const words[] = {"vfio-user", "proxy", NULL};
     unsigned place = 0;
@@ -170,6 +180,19 @@ static const char **path_of(struct settings *settings, const char *name) {
     return NULL;
 }
 
+/* Takes an option whose value is one of some words. It returns 1 if it is none of these. */
+static int take_choice(struct settings *settings, const char *name, const char *value) {
+    if (!strcmp(name, "transport"))
+        return take_way(value, &settings->way);
+    if (!strcmp(name, "pick"))
+        return take_pick(value, &settings->pick);
+    if (!strcmp(name, "sync"))
+        return take_sync(value, &settings->sync);
+    if (!strcmp(name, "trim"))
+        return take_trim(value, &settings->trim_zeros);
+    return 1;
+}
+
 static int take_one(struct settings *settings, const char *name, const char *value) {
     const char **path = path_of(settings, name);
     settings->judge |= !strcmp(name, "json");
@@ -184,22 +207,18 @@ static int take_one(struct settings *settings, const char *name, const char *val
     if (!strcmp(name, "cap"))
         return capabilities_take(&settings->capabilities, value);
     int named = identity_take(&settings->identity, name, value);
+    if (named > 0)
+        named = take_choice(settings, name, value);
     if (named <= 0)
         return named;
-    if (!strcmp(name, "transport"))
-        return take_way(value, &settings->way);
     if (!strcmp(name, "hold"))
         return take_hold(settings, value);
-    if (!strcmp(name, "pick"))
-        return take_pick(value, &settings->pick);
     if (!strcmp(name, "seed"))
         return option_number(name, value, 0, UINT64_MAX, &settings->seed);
     if (!strcmp(name, "delay"))
         return option_delay(name, value, &settings->delay);
     if (!strcmp(name, "image"))
         return image_find(&settings->mapped.image, value);
-    if (!strcmp(name, "sync"))
-        return take_sync(value, &settings->sync);
     if (!strcmp(name, "most-journal"))
         return option_bytes(name, value, &settings->most_journal);
     if (!strcmp(name, "memory-wait"))
@@ -214,7 +233,7 @@ static int take_one(struct settings *settings, const char *name, const char *val
 /* Takes one option with its value. */
 static int take_option(struct settings *settings, const char *word, const char *value) {
     static const char *const names[] = {"sectors", "depth", "cap", "pick", "seed", "delay", "image", "sync", "most-journal", "record", "record-limit", "log",
-                                        "judge-from", "slow-bits", "json", "transport", "socket", "hold", "size", "script", "model", "serial", "firmware", "rpm", "memory-wait"};
+                                        "judge-from", "slow-bits", "json", "transport", "socket", "hold", "size", "script", "model", "serial", "firmware", "rpm", "memory-wait", "trim"};
     const char *name = word + 2;
     enum event_kind rule = rules_kind(name, SERVER_HBA);
     if (rule != EVENT_KINDS)
@@ -347,7 +366,7 @@ static enum asked check_script(char **words) {
 
 enum asked settings_read(struct settings *settings, int count, char **words) {
     *settings = (struct settings){.hold = {.longest = 2000, .gap = 300, .most = 16}, .depth = AHCI_MOST_TAGS, .capabilities = AHCI_HBA_USUAL,
-                                  .identity = identity_usual(), .seed = 1, .judge_from = 1, .sync = SYNC_FLUSH};
+                                  .identity = identity_usual(), .seed = 1, .judge_from = 1, .sync = SYNC_FLUSH, .trim_zeros = true};
     static struct script script;
     settings->script = &script;
     mapped_begin(&settings->mapped);

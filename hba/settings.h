@@ -36,6 +36,7 @@ struct settings {
     struct script *script; /* which commands fail, are slow or are never answered, and what else happens */
     const char *script_file; /* NULL: all of it comes from --fail, --slow and --stall */
     bool write_cache;   /* the disk has a volatile write cache: a loss of power may lose writes that were answered */
+    bool trim_zeros;    /* sectors that the guest trims are zeros, and don't stay as they are */
     bool refuse_log;    /* the log of a failed queued command can't be read */
     struct mapped mapped; /* a file with the disk's sectors */
     enum sync sync;

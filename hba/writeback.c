@@ -21,9 +21,9 @@ bool writeback_reserve(const struct writeback *writeback) {
 /* Pages that are written from here on may be in the copy, and belong to the next write-back. */
 static void take_pages(struct writeback *writeback) {
     writeback->taken = *writeback->mapped;
-    writeback->mapped->changed = writeback->spare;
-    writeback->spare = (struct pages){0};
-    writeback->runs = writeback->taken.changed.count;
+    writeback->mapped->changes = writeback->spare;
+    writeback->spare = (struct changes){0};
+    writeback->runs = changes_runs(&writeback->taken.changes);
     writeback->state = WRITEBACK_COPIES;
 }
 
@@ -32,20 +32,21 @@ static void give_back(struct writeback *writeback, bool is_written) {
     struct mapped *mapped = writeback->mapped;
     mapped->has_journal = writeback->taken.has_journal;
     mapped->image.bytes = writeback->taken.image.bytes;
-    writeback->spare = writeback->taken.changed;
+    writeback->spare = writeback->taken.changes;
     if (!is_written)
-        pages_append(&mapped->changed, &writeback->spare);
-    pages_clear(&writeback->spare);
+        changes_append(&mapped->changes, &writeback->spare);
+    changes_clear(&writeback->spare);
     page_copy_end(&writeback->copy);
     writeback->state = WRITEBACK_NONE;
 }
 
 bool writeback_start(struct writeback *writeback) {
     struct mapped *mapped = writeback->mapped;
-    uint64_t pages = pages_settle(&mapped->changed);
+    changes_settle(&mapped->changes);
     if (!writeback->worker.is_there && worker_start(&writeback->worker, write_copy, writeback))
         return false;
-    if (!pages_reserve(&writeback->spare, mapped->changed.count) || !page_copy_begin(&writeback->copy, writeback->disk, &writeback->taken.changed, pages))
+    const uint64_t pages = pages_count(&mapped->changes.written);
+    if (!changes_reserve(&writeback->spare, changes_runs(&mapped->changes)) || !page_copy_begin(&writeback->copy, writeback->disk, &writeback->taken.changes.written, pages))
         return false;
     take_pages(writeback);
     return true;
@@ -70,5 +71,5 @@ void writeback_end(struct writeback *writeback) {
     worker_end(&writeback->worker);
     if (writeback->state != WRITEBACK_NONE)
         give_back(writeback, writeback->state == WRITEBACK_WRITES && !writeback->failed);
-    pages_free(&writeback->spare);
+    changes_free(&writeback->spare);
 }

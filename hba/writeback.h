@@ -22,9 +22,9 @@ struct writeback {
     struct mapped *mapped;
     const struct disk *disk;
     struct page_copy copy;
-    struct mapped taken; /* the image as the thread has it, with the pages that are written back */
-    size_t runs;         /* how many runs these were at the start: if the write-back fails they are changed pages again */
-    struct pages spare;  /* room for the pages that are written meanwhile */
+    struct mapped taken;  /* the image as the thread has it, with the changes that are written back */
+    size_t runs;          /* changes_runs of these at the start: if the write-back fails they are changes again */
+    struct changes spare; /* room for what changes meanwhile */
     int failed;          /* an errno of the thread */
     struct worker worker; /* there is none before the first write-back */
 };
@@ -32,7 +32,7 @@ struct writeback {
 /* Prepares write-backs of an image. Nothing is allocated before the first one. */
 void writeback_begin(struct writeback *writeback, struct mapped *mapped, const struct disk *disk);
 
-/* Makes room for one call of mapped_wrote. It returns false if there is no memory. */
+/* Makes room for one call of mapped_wrote or mapped_zeroed. It returns false if there is no memory. */
 bool writeback_reserve(const struct writeback *writeback);
 
 /* Begins one. It returns false if there is no memory or no thread for it: then the caller writes by itself. */

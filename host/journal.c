@@ -10,20 +10,31 @@
 #define CHUNK (16 * PAGE_BYTES) /* bytes that are read or written at once */
 #define RUNS 512                /* runs that are read at once */
 
-static const char magic[8] = "AHCIJRN1";
+#define MAGIC 8 /* bytes of it */
+
+static const char magic[MAGIC] = "AHCIJRN1", magic_of_zeros[MAGIC] = "AHCIJRN2"; /* with runs of zeros: a server that doesn't know these takes it for a strange file */
 
 struct header {
-    char magic[8];
-    uint64_t before, after, runs, pages;
-    uint64_t rest[3]; /* zeros */
+    char magic[MAGIC];
+    uint64_t before, after, runs, pages, zero_runs, zero_pages;
+    uint64_t rest; /* zeros */
 };
 
-static uint64_t pages_at(uint64_t runs) {
-    return (sizeof(struct header) + runs * sizeof(struct page_run) + PAGE_BYTES - 1) / PAGE_BYTES * PAGE_BYTES;
+/* Where the runs of a kind end, and the bytes of the pages begin. */
+static uint64_t runs_end(uint64_t runs) {
+    return sizeof(struct header) + runs * sizeof(struct page_run);
+}
+
+static uint64_t pages_at(const struct journal *journal) {
+    return (runs_end(journal->runs + journal->zero_runs) + PAGE_BYTES - 1) / PAGE_BYTES * PAGE_BYTES;
 }
 
 static uint64_t sum_at(const struct journal *journal) {
-    return pages_at(journal->runs) + journal->pages * PAGE_BYTES;
+    return pages_at(journal) + journal->pages * PAGE_BYTES;
+}
+
+uint64_t journal_pages(const struct journal *journal) {
+    return journal->pages + journal->zero_pages;
 }
 
 /* Goes on with the sum of whole words: each changes all that come after it. */
@@ -100,14 +111,20 @@ static uint8_t *room_for(struct writer *to, size_t count) {
     return at;
 }
 
-static void put_header(struct writer *to, const struct journal *journal, const struct pages *changed) {
-    const struct header header = {.before = journal->before, .after = journal->after, .runs = journal->runs, .pages = journal->pages};
+static void put_runs(struct writer *to, const struct pages *pages) {
+    for (size_t i = 0; i < pages->count; i++)
+        memcpy(room_for(to, sizeof(struct page_run)), &pages->runs[i], sizeof(struct page_run));
+}
+
+static void put_header(struct writer *to, const struct journal *journal, const struct changes *changes) {
+    const struct header header = {.before = journal->before, .after = journal->after, .runs = journal->runs, .pages = journal->pages,
+                                  .zero_runs = journal->zero_runs, .zero_pages = journal->zero_pages};
     uint8_t *at = room_for(to, sizeof header);
     memcpy(at, &header, sizeof header);
-    memcpy(at, magic, sizeof magic);
-    for (size_t i = 0; i < changed->count; i++)
-        memcpy(room_for(to, sizeof(struct page_run)), &changed->runs[i], sizeof(struct page_run));
-    size_t rest = (size_t)(pages_at(journal->runs) - sizeof header - journal->runs * sizeof(struct page_run));
+    memcpy(at, journal->zero_runs ? magic_of_zeros : magic, MAGIC);
+    put_runs(to, &changes->written);
+    put_runs(to, &changes->zeroed);
+    size_t rest = (size_t)(pages_at(journal) - runs_end(journal->runs + journal->zero_runs));
     memset(room_for(to, rest), 0, rest);
 }
 
@@ -123,23 +140,25 @@ static void put_page(struct writer *to, const struct disk *disk, uint32_t page) 
     }
 }
 
-static int put_all(struct writer *to, const struct journal *journal, const struct disk *disk, const struct pages *changed) {
-    put_header(to, journal, changed);
-    for (size_t i = 0; i < changed->count; i++)
-        for (uint32_t page = 0; page < changed->runs[i].count && !to->why; page++)
-            put_page(to, disk, changed->runs[i].first + page);
+static int put_all(struct writer *to, const struct journal *journal, const struct disk *disk, const struct changes *changes) {
+    const struct pages *written = &changes->written;
+    put_header(to, journal, changes);
+    for (size_t i = 0; i < written->count; i++)
+        for (uint32_t page = 0; page < written->runs[i].count && !to->why; page++)
+            put_page(to, disk, written->runs[i].first + page);
     drain(to);
     int why = to->why ? to->why : write_at(to->file, &to->sum, sizeof to->sum, to->at);
     return !why && fsync(to->file) ? errno : why;
 }
 
-int journal_write(struct journal *journal, const char *path, const struct disk *disk, const struct pages *changed, uint64_t pages, uint64_t before) {
-    *journal = (struct journal){.before = before, .after = (uint64_t)disk->sectors * SECTOR_BYTES, .runs = changed->count, .pages = pages};
+int journal_write(struct journal *journal, const char *path, const struct disk *disk, const struct changes *changes, uint64_t before) {
+    *journal = (struct journal){.before = before, .after = (uint64_t)disk->sectors * SECTOR_BYTES, .runs = changes->written.count, .pages = pages_count(&changes->written),
+                                .zero_runs = changes->zeroed.count, .zero_pages = pages_count(&changes->zeroed)};
     journal->file = open(path, O_RDWR | O_CREAT | O_EXCL | O_CLOEXEC, 0600);
     if (journal->file < 0)
         return errno;
     struct writer to = {.file = journal->file};
-    int why = put_all(&to, journal, disk, changed);
+    int why = put_all(&to, journal, disk, changes);
     if (why) {
         journal_close(journal);
         unlink(path);
@@ -151,9 +170,16 @@ int journal_write(struct journal *journal, const char *path, const struct disk *
 
 /* Whether the file begins as a journal does; one of zeros is what a power failure leaves. */
 static bool is_strange(const struct header *header, uint64_t bytes) {
-    size_t there = bytes < sizeof magic ? (size_t)bytes : sizeof magic;
-    static const char zeros[sizeof magic];
-    return memcmp(header->magic, magic, there) && memcmp(header->magic, zeros, there);
+    size_t there = bytes < MAGIC ? (size_t)bytes : MAGIC;
+    static const char zeros[MAGIC];
+    return memcmp(header->magic, magic, there) && memcmp(header->magic, magic_of_zeros, there) && memcmp(header->magic, zeros, there);
+}
+
+/* Whether the header can be that of a journal of so many bytes. A disk has at most 2^29 pages, so no product is too large. */
+static bool is_fit(const struct header *header, const struct journal *journal, uint64_t bytes) {
+    const char *right = header->zero_runs ? magic_of_zeros : magic;
+    const bool is_small = header->runs <= header->pages && !(header->pages >> 30) && header->zero_runs <= header->zero_pages && !(header->zero_pages >> 30);
+    return !memcmp(header->magic, right, MAGIC) && is_small && bytes == sum_at(journal) + sizeof(uint64_t);
 }
 
 /* Whether the sum at the end is that of all before it. */
@@ -173,7 +199,7 @@ static int look_at_sum(const struct journal *journal, bool *is_right) {
 }
 
 static int look(struct journal *journal, uint64_t bytes, enum journal_state *state) {
-    struct header header = {{0}, 0, 0, 0, 0, {0}};
+    struct header header = {.rest = 0};
     int why = read_at(journal->file, &header, bytes < sizeof header ? (size_t)bytes : sizeof header, 0);
     if (why)
         return why;
@@ -181,9 +207,10 @@ static int look(struct journal *journal, uint64_t bytes, enum journal_state *sta
     journal->after = header.after;
     journal->runs = header.runs;
     journal->pages = header.pages;
+    journal->zero_runs = header.zero_runs;
+    journal->zero_pages = header.zero_pages;
     *state = is_strange(&header, bytes) ? JOURNAL_STRANGE : JOURNAL_TORN;
-    /* a disk has fewer than 2^29 pages, so no product is too large */
-    if (memcmp(header.magic, magic, sizeof magic) || header.runs > header.pages || header.pages >> 30 || bytes != sum_at(journal) + sizeof(uint64_t))
+    if (!is_fit(&header, journal, bytes))
         return 0;
     bool is_right = false;
     why = look_at_sum(journal, &is_right);
@@ -235,14 +262,32 @@ static int copy_run(const struct journal *journal, int image, struct page_run ru
     return 0;
 }
 
-static int copy_runs(const struct journal *journal, int image) {
+/* Makes a run zeros. */
+static int zero_run(const struct journal *journal, int image, struct page_run run, uint64_t *from) {
+    static const uint8_t zeros[CHUNK];
+    uint64_t at = (uint64_t)run.first * PAGE_BYTES, end = at + (uint64_t)run.count * PAGE_BYTES;
+    (void)from;
+    if (end > journal->after)
+        return EBADMSG;
+    if (!fallocate(image, FALLOC_FL_PUNCH_HOLE | FALLOC_FL_KEEP_SIZE, (off_t)at, (off_t)(end - at)))
+        return 0;
+    int why = 0;
+    for (; at < end && !why; at += CHUNK)
+        why = write_at(image, zeros, end - at < CHUNK ? (size_t)(end - at) : CHUNK, at);
+    return why;
+}
+
+typedef int take_journal_run(const struct journal *journal, int image, struct page_run run, uint64_t *from);
+
+/* Takes the runs from one place among them up to another. */
+static int take_runs(const struct journal *journal, int image, uint64_t first, uint64_t end, take_journal_run *take) {
     struct page_run runs[RUNS];
-    uint64_t from = pages_at(journal->runs);
-    for (uint64_t at = 0; at < journal->runs; at += RUNS) {
-        size_t count = journal->runs - at < RUNS ? (size_t)(journal->runs - at) : RUNS;
-        int why = read_at(journal->file, runs, count * sizeof *runs, sizeof(struct header) + at * sizeof *runs);
+    uint64_t from = pages_at(journal);
+    for (uint64_t at = first; at < end; at += RUNS) {
+        size_t count = end - at < RUNS ? (size_t)(end - at) : RUNS;
+        int why = read_at(journal->file, runs, count * sizeof *runs, runs_end(at));
         for (size_t i = 0; i < count && !why; i++)
-            why = copy_run(journal, image, runs[i], &from);
+            why = take(journal, image, runs[i], &from);
         if (why)
             return why;
     }
@@ -254,6 +299,8 @@ int journal_apply(const struct journal *journal, int image) {
     /* at once: so the image has never a size between the two */
     if (fstat(image, &found) || ((uint64_t)found.st_size < journal->after && ftruncate(image, (off_t)journal->after)))
         return errno;
-    int why = copy_runs(journal, image);
+    int why = take_runs(journal, image, journal->runs, journal->runs + journal->zero_runs, zero_run);
+    if (!why)
+        why = take_runs(journal, image, 0, journal->runs, copy_run);
     return !why && fdatasync(image) ? errno : why;
 }

@@ -29,7 +29,7 @@ void mapped_end(struct mapped *mapped) {
     unmap(mapped);
     if (mapped->file >= 0)
         close(mapped->file);
-    pages_free(&mapped->changed);
+    changes_free(&mapped->changes);
     image_end(&mapped->image);
     mapped_begin(mapped);
 }
@@ -79,19 +79,19 @@ static int apply_left(struct mapped *mapped, const struct journal *journal, cons
     uint64_t bytes = mapped->image.bytes;
     if (bytes != journal->before && bytes != journal->after) {
         say_of("image", image, "%s has %" PRIu64 " pages that a server was to write into it, but is of an image of %" PRIu64 " bytes, and this one has %" PRIu64
-               ": keep it elsewhere or remove it", path, journal->pages, journal->before, bytes);
+               ": keep it elsewhere or remove it", path, journal_pages(journal), journal->before, bytes);
         return -1;
     }
     int why = mapped->why_not ? mapped->why_not : journal_apply(journal, mapped->file);
     if (!why && unlink(path))
         why = errno;
     if (why) {
-        say_of("image", image, "%s has %" PRIu64 " pages that a server was to write into it, and they can't be written: %s", path, journal->pages, strerror(why));
+        say_of("image", image, "%s has %" PRIu64 " pages that a server was to write into it, and they can't be written: %s", path, journal_pages(journal), strerror(why));
         return -1;
     }
     image_sync_folder(image);
     mapped->image.bytes = journal->after;
-    say_of("image", image, "%s had %" PRIu64 " pages that a killed server was writing back; they are in the image now", path, journal->pages);
+    say_of("image", image, "%s had %" PRIu64 " pages that a killed server was writing back; they are in the image now", path, journal_pages(journal));
     return 0;
 }
 
@@ -140,13 +140,29 @@ int mapped_open(struct mapped *mapped) {
     return image_look_for_new(&mapped->image) || recover(mapped) ? -1 : 0;
 }
 
-/* The mapping's last page goes on with zeros behind the file's end, and so does the last sector. */
+/* How many of the file's bytes come before the hole at its end; all of them if there is none, or if the file system doesn't know. */
+static uint64_t data_of(int file, uint64_t bytes) {
+    uint64_t low = 0, high = (bytes + PAGE_BYTES - 1) / PAGE_BYTES; /* from page `high` on the file has no data */
+    while (low < high) {
+        const uint64_t middle = low + (high - low) / 2;
+        if (lseek(file, (off_t)(middle * PAGE_BYTES), SEEK_DATA) < 0 && errno == ENXIO)
+            high = middle;
+        else
+            low = middle + 1;
+    }
+    return high * PAGE_BYTES < bytes ? high * PAGE_BYTES : bytes;
+}
+
+/* The mapping's last page goes on with zeros behind the file's end, and so does the last sector. What a disk over the mapping has behind it is zeros
+   without marks, so zeros that a guest makes there take no memory. */
 int mapped_map(struct mapped *mapped) {
     struct image *image = &mapped->image;
     if (!image->path)
         return 0;
     unmap(mapped);
-    mapped->length = (size_t)(image->bytes + SECTOR_BYTES - 1) / SECTOR_BYTES * SECTOR_BYTES;
+    mapped->length = (size_t)(data_of(mapped->file, image->bytes) + SECTOR_BYTES - 1) / SECTOR_BYTES * SECTOR_BYTES;
+    if (image->bytes % SECTOR_BYTES)
+        note_of("image", image->path, "%" PRIu64 " bytes are no whole sectors; the last one is filled up with zeros", image->bytes);
     if (!mapped->length)
         return 0;
     void *at = mmap(NULL, mapped->length, PROT_READ, MAP_PRIVATE, mapped->file, 0);
@@ -156,8 +172,6 @@ int mapped_map(struct mapped *mapped) {
     }
     madvise(at, mapped->length, MADV_RANDOM); /* else the first write of a page would read as much around it as the file's disk reads ahead */
     mapped->bytes = at;
-    if (image->bytes % SECTOR_BYTES)
-        note_of("image", image->path, "%" PRIu64 " bytes are no whole sectors; the last one is filled up with zeros", image->bytes);
     return 0;
 }
 
@@ -172,17 +186,22 @@ uint8_t *mapped_copy(const struct mapped *mapped, uint32_t sectors) {
 
 /* ---- writing back ---- */
 
-bool mapped_reserve(struct mapped *mapped, size_t writes) {
-    return !mapped->image.path || pages_reserve(&mapped->changed, writes);
+bool mapped_reserve(struct mapped *mapped, size_t calls) {
+    return !mapped->image.path || changes_reserve(&mapped->changes, calls);
 }
 
 void mapped_wrote(struct mapped *mapped, uint32_t lba, uint32_t sectors) {
     if (mapped->image.path)
-        pages_add(&mapped->changed, lba, sectors);
+        changes_wrote(&mapped->changes, lba, sectors);
+}
+
+void mapped_zeroed(struct mapped *mapped, uint32_t lba, uint32_t sectors) {
+    if (mapped->image.path)
+        changes_zeroed(&mapped->changes, lba, sectors);
 }
 
 bool mapped_is_changed(const struct mapped *mapped) {
-    return mapped->changed.count;
+    return !changes_are_none(&mapped->changes);
 }
 
 /* Whether FILE is still the file of the start. */
@@ -208,7 +227,7 @@ static int say_left(const struct mapped *mapped, uint64_t pages, const char *jou
 /* Writes the journal, whole or not at all. One that is left by an earlier write-back has no other pages: they are still changed. */
 static int write_journal(struct mapped *mapped, const struct disk *disk, const struct names *names, struct journal *journal, uint64_t pages) {
     char of[PATH_MAX + 3];
-    int why = journal_write(journal, names->next, disk, &mapped->changed, pages, mapped->image.bytes);
+    int why = journal_write(journal, names->next, disk, &mapped->changes, mapped->image.bytes);
     if (!why && rename(names->next, names->journal)) {
         why = errno;
         journal_close(journal);
@@ -229,17 +248,17 @@ static int write_pages(struct mapped *mapped, const struct names *names, const s
     int why = fstat(mapped->file, &found) ? errno : 0;
     if (!why && (uint64_t)found.st_size < mapped->image.bytes) {
         snprintf(text, sizeof text, "it has become shorter, %" PRIu64 " bytes instead of %" PRIu64, (uint64_t)found.st_size, mapped->image.bytes);
-        return say_left(mapped, journal->pages, names->journal, text);
+        return say_left(mapped, journal_pages(journal), names->journal, text);
     }
     why = why ? why : journal_apply(journal, mapped->file);
     if (!why && unlink(names->journal))
         why = errno;
     if (why)
-        return say_left(mapped, journal->pages, names->journal, strerror(why));
+        return say_left(mapped, journal_pages(journal), names->journal, strerror(why));
     image_sync_folder(mapped->image.path);
     mapped->has_journal = false;
     mapped->image.bytes = journal->after;
-    pages_clear(&mapped->changed);
+    changes_clear(&mapped->changes);
     return 0;
 }
 
@@ -250,7 +269,7 @@ int mapped_write(struct mapped *mapped, const struct disk *disk) {
         return 0;
     if (name(&mapped->image, &names))
         return ENAMETOOLONG;
-    uint64_t pages = pages_settle(&mapped->changed);
+    uint64_t pages = changes_settle(&mapped->changes);
     if (mapped->why_not)
         return say_unwritten(mapped, pages, "", mapped->why_not);
     if (!is_there(mapped)) {

@@ -3,9 +3,9 @@
 #ifndef AHCI_HOST_MAPPED_H
 #define AHCI_HOST_MAPPED_H
 
+#include "changes.h"
 #include "disk.h"
 #include "image.h"
-#include "pages.h"
 
 #include <stdbool.h>
 #include <stddef.h>
@@ -15,9 +15,9 @@ struct mapped {
     struct image image;
     int file;             /* locked; -1: there is no image */
     int why_not;          /* an errno: why it can't be written, or 0 */
-    const uint8_t *bytes; /* the mapping; NULL if there is none, or if the image is empty */
-    size_t length;        /* its whole sectors, in bytes: zeros fill up the last one */
-    struct pages changed; /* since the last write-back */
+    const uint8_t *bytes; /* the mapping; NULL if there is none, or if the image has no data */
+    size_t length;        /* its whole sectors, in bytes: zeros fill up the last one. It ends where a hole up to the file's end begins */
+    struct changes changes; /* since the last write-back */
     bool has_journal;     /* a write-back has failed and left FILE.journal, which is whole */
 };
 
@@ -33,11 +33,12 @@ int mapped_map(struct mapped *mapped);
 /* All sectors of a small disk: those of the image, and zeros after them. The caller frees them. NULL once it has printed that there is no memory. */
 uint8_t *mapped_copy(const struct mapped *mapped, uint32_t sectors);
 
-/* Makes room for so many calls of mapped_wrote. It returns false if there is no memory. */
-bool mapped_reserve(struct mapped *mapped, size_t writes);
+/* Makes room for so many calls of mapped_wrote and mapped_zeroed. It returns false if there is no memory. */
+bool mapped_reserve(struct mapped *mapped, size_t calls);
 
-/* A command has written these sectors. */
+/* A command has written these sectors, or has made them zeros. */
 void mapped_wrote(struct mapped *mapped, uint32_t lba, uint32_t sectors);
+void mapped_zeroed(struct mapped *mapped, uint32_t lba, uint32_t sectors);
 
 /* Whether a write-back has something to do. */
 bool mapped_is_changed(const struct mapped *mapped);

@@ -23,8 +23,14 @@ static int by_first(const void *a, const void *b) {
     return (left > right) - (left < right);
 }
 
-uint64_t pages_settle(struct pages *pages) {
+uint64_t pages_count(const struct pages *pages) {
     uint64_t total = 0;
+    for (size_t at = 0; at < pages->count; at++)
+        total += pages->runs[at].count;
+    return total;
+}
+
+uint64_t pages_settle(struct pages *pages) {
     size_t kept = 0;
     if (pages->count)
         qsort(pages->runs, pages->count, sizeof *pages->runs, by_first);
@@ -32,9 +38,7 @@ uint64_t pages_settle(struct pages *pages) {
         if (!kept || !is_joined(&pages->runs[kept - 1], pages->runs[at]))
             pages->runs[kept++] = pages->runs[at];
     pages->count = kept;
-    for (size_t at = 0; at < kept; at++)
-        total += pages->runs[at].count;
-    return total;
+    return pages_count(pages);
 }
 
 /* The room doubles only if the merged runs need more than half of it: so a run costs the sorting of a few others, however many there are. */

@@ -32,6 +32,9 @@ void pages_append(struct pages *pages, const struct pages *others);
 /* Sorts the runs, and merges those that overlap or touch. It returns how many pages they have. */
 uint64_t pages_settle(struct pages *pages);
 
+/* How many pages the runs have, if they are settled. */
+uint64_t pages_count(const struct pages *pages);
+
 /* Forgets the runs, and keeps the room. */
 void pages_clear(struct pages *pages);
 

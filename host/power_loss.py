@@ -5,7 +5,7 @@
 """
 from __future__ import annotations
 
-from typing import Callable, Dict, FrozenSet, Iterator, List, NamedTuple, Optional, Set
+from typing import Callable, Dict, FrozenSet, Iterable, Iterator, List, NamedTuple, Optional, Set
 
 from records import COLLECT, FLUSH, LEFT, LOSS, RESET, SECTOR, SERVE, WRITE, ZERO, Entry, Record, State
 
@@ -13,7 +13,7 @@ NONE: FrozenSet[int] = frozenset()
 
 
 class Write:
-    """A write that no flush has come after, or sectors that became zeros: of those the record has no answer."""
+    """A write that no flush has come after, or sectors that became zeros. Of a trim the record has no answer, and each of its sectors is kept or lost by itself."""
 
     def __init__(self, entry: Entry, is_carried_out: bool) -> None:
         self.entry = entry
@@ -53,7 +53,7 @@ class Unflushed:
         elif it.kind == COLLECT and it.tag in self.by_tag:
             self.by_tag.pop(it.tag).is_answered = True
         elif it.kind == ZERO:
-            self.remember(it, state)
+            self.remember(state.disk.filled(it.lba, it.count), state)
             self.writes.append(Write(it, True))
         elif it.kind == FLUSH:
             self.writes, self.before = [], {}
@@ -63,13 +63,14 @@ class Unflushed:
     def carry_out(self, entry: Entry, state: State) -> None:
         if entry.kind != WRITE:
             return
-        self.remember(entry, state)
+        self.remember(range(entry.lba, entry.lba + entry.count), state)
         self.by_tag[entry.tag] = Write(entry, True)
         self.writes.append(self.by_tag[entry.tag])
 
-    def remember(self, entry: Entry, state: State) -> None:
-        """What the sectors of a write have on the medium, unless an earlier write has touched them. Writes of one list are carried out one after the other."""
-        for lba in range(entry.lba, entry.lba + entry.count):
+    def remember(self, sectors: Iterable[int], state: State) -> None:
+        """What the sectors of a write have on the medium, unless an earlier write has touched them. Writes of one list are carried out one after the other. Zeros that become zeros don't
+        change."""
+        for lba in sectors:
             if lba not in self.before:
                 self.before[lba] = state.disk.get(lba)
 
@@ -77,11 +78,13 @@ class Unflushed:
         """The power is lost: what was not carried out may have been begun."""
         for entry in state.commands.values():
             if entry.kind == WRITE and entry.tag not in state.done and entry.tag not in state.held and entry.lba + entry.count <= state.disk.sectors:
-                self.remember(entry, state)
+                self.remember(range(entry.lba, entry.lba + entry.count), state)
                 self.writes.append(Write(entry, False))
 
     def is_certain(self, write: Write) -> bool:
-        """Whether a write is on the medium for good: it was answered, and has FUA or there is no cache."""
+        """Whether a write is on the medium for good: it was answered, and has FUA or there is no cache; zeros are at once if there is none."""
+        if write.entry.kind == ZERO:
+            return not self.has_cache
         return write.is_answered and (bool(write.entry.flag) or not self.has_cache)
 
     def ways(self, lba: int, found: bytes) -> Iterator[Way]:
@@ -176,6 +179,6 @@ def judge_end(record: Record, has_cache: bool, sector_of: Callable[[int], bytes]
             unflushed.take(it, state)
         state.take(it)
     unflushed.lose(state)
-    known = range(record.sectors) if not state.disk.is_large else [8 * page + at for page in sorted(state.disk.known) for at in range(8)]
-    strange = [lba for lba in known if lba < record.sectors and lba not in unflushed.before and sector_of(lba) != state.disk.get(lba)]
+    known = [range(8 * first, min(8 * end, record.sectors)) for first, end in state.disk.known.runs()] if state.disk.is_large else [range(record.sectors)]
+    strange = [lba for run in known for lba in run if lba not in unflushed.before and sector_of(lba) != state.disk.get(lba)]
     return f"sector {strange[0]} has changed, and no write since the last flush touches it" if strange else unflushed.fault(sector_of)

@@ -34,7 +34,7 @@ enum record_kind {
     RECORD_READ_LOG = 13, /* READ LOG EXT was carried out by itself */
     RECORD_LOSS = 14,     /* the disk loses its power: as RECORD_RESET, and the sectors of the RECORD_LEFT that follow are others from here on */
     RECORD_LEFT = 15,     /* sectors that writes before a loss have touched, as it has left them, 64 at most: lba, count, and their bytes behind it */
-    RECORD_ZERO = 16      /* DATA SET MANAGEMENT has made sectors zeros: lba, count. Of a large disk, pages that no command has touched come before it as it has left them */
+    RECORD_ZERO = 16      /* DATA SET MANAGEMENT has made sectors zeros: lba, count */
 };
 
 struct record_entry {

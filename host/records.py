@@ -1,6 +1,7 @@
 """Reads the records that the block device and `ahci-hba` make (record.h has their format)."""
 from __future__ import annotations
 
+import bisect
 import mmap
 import os
 import struct
@@ -102,13 +103,38 @@ class Record:
             yield from (it for it in later.entries() if it.kind != SECTORS or self.sectors > MOST_SECTORS)
 
 
+class Spans:
+    """A set of numbers as runs of neighbours: the first one of each, and the one behind its last. A trim of a large disk names more pages than a set has room for."""
+
+    def __init__(self) -> None:
+        self.firsts: List[int] = []
+        self.ends: List[int] = []
+
+    def add(self, first: int, end: int) -> None:
+        at, to = bisect.bisect_left(self.ends, first), bisect.bisect_right(self.firsts, end)  # the runs that the new one overlaps or touches
+        if at < to:
+            first, end = min(first, self.firsts[at]), max(end, self.ends[to - 1])
+        self.firsts[at:to], self.ends[at:to] = [first], [end]
+
+    def __contains__(self, number: int) -> bool:
+        at = bisect.bisect_right(self.firsts, number) - 1
+        return at >= 0 and number < self.ends[at]
+
+    def runs(self) -> Iterator[Tuple[int, int]]:
+        return zip(self.firsts, self.ends)
+
+    def gaps(self, end: int) -> Iterator[Tuple[int, int]]:
+        """The runs of other numbers, up to an end."""
+        return ((first, last) for first, last in zip([0, *self.ends], [*self.firsts, end]) if first < last)
+
+
 class Disk:
     """A disk's sectors. Of a large disk those are known whose page a command has named; each of the others is zeros here."""
 
     def __init__(self, sectors: int) -> None:
         self.sectors, self.is_large = sectors, sectors > MOST_SECTORS
         self.pages: Dict[int, bytearray] = {}  # those in which something was put
-        self.known: Set[int] = set()  # pages of a large disk
+        self.known = Spans()  # pages of a large disk
 
     def put(self, lba: int, data: memoryview) -> None:
         for page, first, part in pieces_of(lba, data):
@@ -119,12 +145,22 @@ class Disk:
     def zero(self, lba: int, count: int) -> None:
         """Makes sectors zeros. A page all of which is zeros takes no memory."""
         first, end = SECTOR * lba, SECTOR * (lba + count)
-        for page in [it for it in self.pages if PAGE * it < end and first < PAGE * (it + 1)]:
+        for page in self.pages_in(lba, count):
             begin, last = max(first - PAGE * page, 0), min(end - PAGE * page, PAGE)
             if last - begin == PAGE:
                 del self.pages[page]
             else:
                 self.pages[page][begin:last] = bytes(last - begin)
+
+    def pages_in(self, lba: int, count: int) -> List[int]:
+        """The pages of some sectors in which something was put."""
+        span = range(SECTOR * lba // PAGE, (SECTOR * (lba + count) + PAGE - 1) // PAGE)
+        return [it for it in span if it in self.pages] if len(span) < len(self.pages) else sorted(it for it in self.pages if it in span)
+
+    def filled(self, lba: int, count: int) -> List[int]:
+        """Those of some sectors that are not all zeros."""
+        sectors = range(lba, lba + count)
+        return [at for page in self.pages_in(lba, count) for at in range(PAGE // SECTOR * page, PAGE // SECTOR * (page + 1)) if at in sectors and not self.is_blank(at)]
 
     def get(self, lba: int, count: int = 1) -> bytes:
         first, end = SECTOR * lba, SECTOR * (lba + count)
@@ -145,7 +181,8 @@ class Disk:
                     self.put((PAGE * page + first) // SECTOR, part)
         elif it.kind in (READ, WRITE, ZERO) and self.is_large:
             first, end = self.span_of(it)
-            self.known.update(range(SECTOR * first // PAGE, (SECTOR * end + PAGE - 1) // PAGE) if first < end else ())
+            if first < end:
+                self.known.add(SECTOR * first // PAGE, (SECTOR * end + PAGE - 1) // PAGE)
 
     def span_of(self, command: Entry) -> Tuple[int, int]:
         """The first sector of a command, and the one behind its last on the disk: the same if it has none there."""

@@ -25,6 +25,12 @@ class Access(NamedTuple):
     value: int = 0
 
 
+def resident() -> int:
+    """MiB of the program that has started this one."""
+    with open(f"/proc/{os.getppid()}/statm", encoding="ascii") as text:
+        return int(text.read().split()[1]) * os.sysconf("SC_PAGE_SIZE") >> 20
+
+
 def gone() -> None:
     sys.exit("the program is gone")
 

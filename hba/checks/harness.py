@@ -17,7 +17,7 @@ import images
 from images import program  # it knows where the shared checks are
 import pace
 import playing
-from records import WRITE, Record, bounds
+from records import WRITE, ZERO, Record, bounds
 from suite import Check, Failed, expect
 
 HERE = os.path.dirname(os.path.dirname(os.path.realpath(__file__)))
@@ -26,6 +26,7 @@ SANITIZED = PROGRAM + ".sanitized"
 STARVED = PROGRAM + ".starved"
 STALLED = PROGRAM + ".stalled"
 FORGETFUL = PROGRAM + ".forgetful"
+UNMARKED = PROGRAM + ".unmarked"
 LATENCY = os.path.join(HERE, "checks", "latency")
 PLAYER = os.path.join(HERE, "out", "play")
 SECTOR = 512
@@ -96,7 +97,7 @@ def makes(record: str, image: str, room: str) -> str:
         part = [] if written <= WHOLE and first == 0 else ["--from", str(max(first, last - LAST + 1))]
         more = part or ["--all-sectors"]
         played = playing.replayed(playing.scripted(record, os.path.join(room, "played.ahci"), *more), PLAYER)
-        named = {lba for it in entries if it.kind == WRITE and (not part or it.number > last - LAST) for lba in range(it.lba, min(it.lba + it.count, len(wanted) // SECTOR))}
+        named = {lba for it in entries if it.kind in (WRITE, ZERO) and (not part or it.number > last - LAST) for lba in range(it.lba, min(it.lba + it.count, len(wanted) // SECTOR))}
         wrong = [lba for lba in named if played[SECTOR * lba:SECTOR * (lba + 1)] != wanted[SECTOR * lba:SECTOR * (lba + 1)]]
         expect(not wrong and (bool(part) or played == wanted), f"{record} plays to other sectors: {wrong[:5]}")
     return f"{last + 1} entries"

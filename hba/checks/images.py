@@ -32,7 +32,8 @@ MORE_MODULES = {"losses": ["xfs"], "tools": ["sg", "xfs"]}
 MORE_PROGRAMS = {"losses": {"e2fsck": "e2fsprogs", "xfs_repair": "xfsprogs"},
                  "tools": {"smartctl": "smartmontools", "hdparm": "hdparm", "sg_sat_identify": "sg3-utils", "sg_sat_read_gplog": "sg3-utils", "sg_sat_phy_event": "sg3-utils",
                            "sg_raw": "sg3-utils",
-                           "fstrim": "util-linux", "blkdiscard": "util-linux", "lsblk": "util-linux", "mkfs.xfs": "xfsprogs"}}
+                           "fstrim": "util-linux", "blkdiscard": "util-linux", "lsblk": "util-linux", "mkfs.xfs": "xfsprogs"},
+                 "trims": {"fstrim": "util-linux", "blkdiscard": "util-linux"}}
 MORE_COMPILED = {"losses": ["synced"]}
 
 # the modules of a kernel that the disk and a file system want; those that they use come with them. A kernel may have no such module, or have it built in

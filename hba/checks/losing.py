@@ -14,7 +14,7 @@ import playing
 from harness import FORGETFUL, HERE, PROGRAM, SANITIZED, SECTOR, Guest, blank, contents, environment, linux, makes, way_of
 from images import program
 from power_loss import Loss, judge_losses
-from records import LEFT, LOSS, Record, State
+from records import LEFT, LOSS, ZERO, Record, State
 from suite import Check, Failed, expect
 
 LOSER = os.path.join(HERE, "checks", "loser")
@@ -72,7 +72,7 @@ def changes(folder: str) -> Dict[str, int]:
 
 
 def random_losses(room: str, options: Sequence[str], has_cache: bool, seeds: int, losses: int, sectors: int = 1024) -> str:
-    writes, count = 0, {"changed": 0, "unchanged": 0}
+    writes, trims, count = 0, 0, {"changed": 0, "unchanged": 0}
     for seed in range(1, seeds + 1):
         folder = lost(room, seed, losses, options, sectors=sectors)
         found = judged(folder, losses, has_cache)
@@ -84,14 +84,16 @@ def random_losses(room: str, options: Sequence[str], has_cache: bool, seeds: int
         else:
             playing.far_plays(folder, os.path.join(room, "script"), image, os.path.join(HERE, "out", "play"))
         writes += sum(it.writes for it in found)
+        kinds = [it.kind for it in Record(folder).entries()]
+        trims += kinds[kinds.index(LOSS):].count(ZERO)
         for how, times in changes(folder).items():
             count[how] += times
-    expect(min(count.values()) > 0, f"of {sum(count.values())} losses {count}")
-    return f"{seeds * losses} losses after {writes} writes without a flush; {count['changed']} have changed sectors"
+    expect(min(trims, *count.values()) > 0, f"of {sum(count.values())} losses {count}; {trims} ranges became zeros after the first")
+    return f"{seeds * losses} losses after {writes} writes and trims without a flush; {count['changed']} have changed sectors; {trims} ranges became zeros"
 
 
 def with_cache(room: str) -> str:
-    """A driver writes at random, and the power of a disk with a write cache is lost again and again: what is left is allowed by the rule, the record plays to it, and
+    """A driver writes and trims at random, and the power of a disk with a write cache is lost again and again: what is left is allowed by the rule, the record plays to it, and
     the next controller has it."""
     return random_losses(room, ["--write-cache"], True, 6, 20)
 
@@ -237,16 +239,17 @@ def faults_of(rounds: Sequence[Round]) -> List[str]:
 
 
 def survives(room: str, system: str, times: int, seed: int) -> str:
-    rounds = filled(room, system, times, seed)
+    rounds, record = filled(room, system, times, seed), Record(os.path.join(room, "record"))
     wrong, files = faults_of(rounds), sum(len(it.synced) for it in rounds[:-1])
-    wrong += faults(judge_losses(Record(os.path.join(room, "record")), True))
+    wrong += faults(judge_losses(record, True))
+    trims = sum(it.kind == ZERO for it in record.entries())
     expect(not wrong, f"from seed {seed} on: {'; '.join(wrong[:3])}")
-    expect(files >= times, f"only {files} files were synced before {times} losses")
-    return f"{times} losses, {files} files that were synced are right"
+    expect(files >= times and trims > 0, f"only {files} files were synced before {times} losses, and {trims} ranges trimmed")
+    return f"{times} losses, {files} files that were synced are right, {trims} ranges were trimmed"
 
 
 def ext4(room: str) -> str:
-    """Linux fills ext4, and the disk loses its power under it, three times: the file system is sound, by its own journal and by e2fsck, each file that was synced is right, and what was left
+    """Linux fills ext4 and removes what was there, which trims, and the disk loses its power under it, three times: the file system is sound, by its own journal and by e2fsck, each file that was synced is right, and what was left
     is allowed by the record."""
     return survives(room, "ext4", 3, 1)
 

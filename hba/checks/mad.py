@@ -6,8 +6,9 @@ import struct
 from typing import Callable, List, NamedTuple, Sequence
 
 from bus import BYTES
+from port import DATA_SET_MANAGEMENT, SECTOR, ranges
 
-CODES = [0x60, 0x61, 0x60, 0x61, 0x20, 0x24, 0xC8, 0x25, 0x30, 0x34, 0xCA, 0x35, 0x40, 0x42, 0xEC, 0x2F, 0x47, 0xE7, 0xEA, 0xEF, 0xE5, 0xF8, 0x27, 0x90, 0xA1, 0xC4, 0xC5, 0x29, 0x39, 0xCE, 0xC6]
+CODES = [0x60, 0x61, 0x60, 0x61, 0x20, 0x24, 0xC8, 0x25, 0x30, 0x34, 0xCA, 0x35, 0x40, 0x42, 0xEC, 0x2F, 0x47, 0xE7, 0xEA, 0xEF, 0xE5, 0xF8, 0x27, 0x90, 0xA1, 0xC4, 0xC5, 0x29, 0x39, 0xCE, 0xC6, 0x06, 0x06]
 REGISTERS = [0x04, 0x08, 0x100, 0x104, 0x108, 0x10C, 0x110, 0x114, 0x118, 0x12C, 0x130, 0x134, 0x138]
 
 
@@ -31,6 +32,14 @@ class Mad:
             return self.choose.choice([BYTES - 64, self.bases[1] + BYTES - 2, 1 << 40, (1 << 64) - 64, self.bases[1] - 8, self.choose.getrandbits(64)])
         return self.choose.choice(self.bases) + self.choose.randrange(0, BYTES - 0x4000)
 
+    def trim(self, fis: bytearray) -> bytes:
+        """Makes a command a trim of some sectors, one in ten of which are not on a disk of 256. The PRDT's entry."""
+        choose, place = self.choose, self.address() & ~1
+        end = 256 if choose.random() < 0.9 else 1 << 48
+        self.put(place, ranges([(choose.choice([0, 5, 100, 216, end - 40]), choose.choice([0, 1, 8, 40])) for _ in range(choose.randrange(65))]))
+        fis[3], fis[12], fis[13] = 1, 1, 0
+        return struct.pack("<QII", place, 0, SECTOR - 1)
+
     def table(self, entries: int) -> bytes:
         """CFIS of a random command, and a PRDT of so many random entries."""
         choose = self.choose
@@ -41,7 +50,9 @@ class Mad:
         fis[12:16] = bytes([count & 255, count >> 8, 0, choose.choice([0, 8])])
         if choose.random() < 0.2:
             fis[choose.randrange(20)] = choose.randrange(256)
-        out = bytes(fis).ljust(0x80, b"\0")
+        is_trim = fis[2] == DATA_SET_MANAGEMENT and choose.random() < 0.8
+        first = self.trim(fis) if is_trim else b""
+        out = bytes(fis).ljust(0x80, b"\0") + first
         for _ in range(entries):
             length = choose.choice([511, 4095, 4095, 65535, 0x3FFFFF, 1, 0, choose.getrandbits(32)])
             out += struct.pack("<QII", self.address() & ~choose.choice([0, 1]), 0, length)

@@ -16,7 +16,7 @@ from provoked import EVENTFUL, FINE
 from suite import Check, expect
 
 SECONDS = 60
-FILL = b"\x5a" * (8 * SECTOR)
+FILL = b"\x5a" * (4 * SECTOR) + bytes(4 * SECTOR)  # what the driver writes, and what it trims of that
 
 
 def written(room: str, name: str, content: bytes) -> str:
@@ -27,7 +27,7 @@ def written(room: str, name: str, content: bytes) -> str:
 
 
 def filled(content: bytes) -> bytes:
-    """A disk's sectors after the driver's write of sectors 100 to 107."""
+    """A disk's sectors after the driver's write of sectors 100 to 107 and its trim of the last four."""
     return content[:100 * SECTOR] + FILL + content[108 * SECTOR:]
 
 
@@ -39,7 +39,7 @@ def run(options: Sequence[str], steps: Sequence[str], status: int = 0) -> Tuple[
 
 
 def exchanged(room: str) -> str:
-    """A driver writes to three disks, one after the other in the same slot: the second one has an image, and the third none. Each has its own name, sectors, image and record."""
+    """A driver writes to three disks, one after the other in the same slot, and trims: the second one has an image, and the third none. Each has its own name, sectors, image and record."""
     before = [images.pattern(2048 * SECTOR, "first"), images.pattern(1000 * SECTOR, "second"), bytes(1000 * SECTOR)]
     first, second = (written(room, f"{name}.img", content) for name, content in zip(("first", "second"), before))
     script = written(room, "it.events", (f"on first READ FPDMA QUEUED do unplug\non 3rd write PxSCTL do plug another {second}\n"
@@ -47,7 +47,7 @@ def exchanged(room: str) -> str:
     record = os.path.join(room, "record")
     wanted: List[str] = []
     for number, content in enumerate(before, 1):
-        wanted += [f"named: {number:08d}, {len(content) // SECTOR} sectors", f"held: {content[100 * SECTOR:][:4].hex()}, {FINE}", f"fill: {FINE}", f"held: 5a5a5a5a, {FINE}"]
+        wanted += [f"named: {number:08d}, {len(content) // SECTOR} sectors", f"held: {content[100 * SECTOR:][:4].hex()}, {FINE}", f"fill: {FINE}", f"trim: {FINE}", f"held: 5a5a5a5a, {FINE}"]
         if number < len(before):
             wanted += ["unanswered: no answer", "link: DET 0", "comreset: 0 messages"]
     printed, said = run(["--image", first, "--script", script, "--record", record], [it.split(":")[0] for it in wanted])

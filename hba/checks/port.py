@@ -2,6 +2,7 @@
 from __future__ import annotations
 
 import struct
+from typing import Iterable, Sequence
 
 from bus import MASTER, Guest
 
@@ -9,8 +10,8 @@ GHC, IS, PXCLB, PXFB, PXIS, PXIE, PXCMD, PXTFD, PXSIG, PXSSTS, PXSCTL, PXSERR, P
     0x04, 0x08, 0x100, 0x108, 0x110, 0x114, 0x118, 0x120, 0x124, 0x128, 0x12C, 0x130, 0x134, 0x138)
 LIST, RECEIVED, TABLES, DATA, LOG = 0x1000, 0x400, 0x4000, 0x8000, 0xC000
 ST, FRE, CR, TFES, HBFS, HBDS = 1, 0x10, 0x8000, 0x40000000, 0x20000000, 0x10000000
-READ_QUEUED, WRITE_QUEUED, READ_DMA, WRITE_DMA, READ_SECTORS, READ_LOG = 0x60, 0x61, 0xC8, 0xCA, 0x20, 0x2F
-QUEUED = (READ_QUEUED, WRITE_QUEUED)
+READ_QUEUED, WRITE_QUEUED, READ_DMA, WRITE_DMA, READ_SECTORS, READ_LOG, FLUSH, IDENTIFY, DATA_SET_MANAGEMENT = 0x60, 0x61, 0xC8, 0xCA, 0x20, 0x2F, 0xEA, 0xEC, 0x06
+QUEUED, WRITES = (READ_QUEUED, WRITE_QUEUED), (WRITE_QUEUED, WRITE_DMA, DATA_SET_MANAGEMENT)
 SECTOR = 512
 
 
@@ -38,10 +39,11 @@ class Port(Guest):
         self.write(PXCMD, ST | FRE)
 
     def lay(self, slot: int, code: int, lba: int, count: int, data: int) -> None:
-        """Lays out a command of a table of its own; one of 0 sectors has no data."""
-        table, writes = TABLES + 0x100 * slot, code in (WRITE_QUEUED, WRITE_DMA)
+        """Lays out a command of a table of its own; one of 0 sectors has no data. DATA SET MANAGEMENT is one with TRIM, and `count` its blocks."""
+        table, writes = TABLES + 0x100 * slot, code in WRITES
         fis = bytearray((0x27, 0x80, code, 0)) + lba.to_bytes(3, "little") + b"\x40" + bytes(12)
         fis[3 if code in QUEUED else 12] = count
+        fis[3] |= code == DATA_SET_MANAGEMENT
         fis[12] |= slot << 3 if code in QUEUED else 0
         self.put(LIST + 32 * slot, struct.pack("<HHIQ16x", 5 | writes << 6, count > 0, 0, table))
         self.put(table, bytes(fis).ljust(0x80, b"\0") + struct.pack("<QII", data, 0, max(count, 1) * SECTOR - 1))
@@ -60,6 +62,12 @@ class Port(Guest):
 
     def is_outstanding(self) -> bool:
         return bool(self.read(PXCI) | self.read(PXSACT)) and not self.read(PXIS) & (TFES | HBFS | HBDS)
+
+
+def ranges(entries: Iterable[Sequence[int]]) -> bytes:
+    """The blocks of DATA SET MANAGEMENT with TRIM: LBA Range Entries, each an LBA and a number of sectors (ACS-3, "DATA SET MANAGEMENT"), filled up with entries without sectors."""
+    data = b"".join(struct.pack("<Q", count << 48 | lba) for lba, count in entries)
+    return data.ljust(max(1, -(-len(data) // SECTOR)) * SECTOR, b"\0")
 
 
 def lba_of(fis: bytes) -> int:

@@ -12,7 +12,7 @@ import images
 from harness import BROKE_A_RULE, HERE, PROGRAM, SANITIZED, SECTOR, STARVED, Guest, blank, contents, digest, environment, linux, makes, qemu, way_of
 from images import pattern
 import pace
-from records import ACCEPT, FAIL, RESET, SERVE, WRITE, Record
+from records import ACCEPT, FAIL, RESET, SERVE, WRITE, ZERO, Record
 from suite import Check, expect
 
 GARBAGE = os.path.join(HERE, "checks", "garbage")
@@ -123,6 +123,8 @@ def command_lines(room: str) -> str:
         (["run", "--rpm", "1024", *run], '--rpm: expected 0, 1, or 1025 to 65534, got "1024"'),
         (["run", "--pick", "all", *run], '--pick: expected low, high or random, got "all"'),
         (["run", "--sync", "never", *run], '--sync: expected end or flush, got "never"'),
+        (["run", "--trim", "ones", *run], '--trim: expected zeros or advice, got "ones"'),
+        ([*small, "--trim", "advice", "--trim", "zeros", *run], "--trim zeros: --trim is given twice"),
         (["run", "--seed", "18446744073709551616", *run], f'--seed: {number} 0 to 18446744073709551615, got "18446744073709551616"'),
         (["run", "--delay", "1+", *run], '--delay: expected MICROSECONDS or MICROSECONDS+JITTER, each a decimal number up to 10000000, got "1+"'),
         (["run", "--fail", "1:4", *run], f'--fail: expected WHERE:EE{rest}, and EE two hexadecimal digits, got "1:4"'),
@@ -166,8 +168,8 @@ def record(room: str) -> str:
 
 
 def garbage(room: str) -> str:
-    """Random accesses over random tables, under the sanitizers; the record makes the image that was saved, over all resets."""
-    steps, resets, entries = 0, 0, 0
+    """Random accesses over random tables, under the sanitizers; the record makes the image that was saved, over all resets and trims."""
+    steps, resets, trims, entries = 0, 0, 0, 0
     for seed in range(5):
         image, folder = blank(room, 256), os.path.join(room, f"record{seed}")
         rules = ["--fail", "5:40:3", "--fail", "any:04,rate=1/50,seed=3", "--slow", "30-40:200+200:20,writes", "--stall", "17:3"]
@@ -177,9 +179,10 @@ def garbage(room: str) -> str:
         makes(folder, image, room)
         kinds = [it.kind for it in Record(folder).entries()]
         resets += kinds.count(RESET)
+        trims += kinds.count(ZERO)
         entries += len(kinds)
-    expect(resets > 20, f"the records have {resets} resets")
-    return f"{steps} accesses, {entries} entries, {resets} resets"
+    expect(resets > 20 and trims > 20, f"the records have {resets} resets, and {trims} ranges became zeros")
+    return f"{steps} accesses, {entries} entries, {resets} resets, {trims} ranges that became zeros"
 
 
 def wrong_peer(room: str) -> str:

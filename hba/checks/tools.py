@@ -14,6 +14,7 @@ BYTES = 512 * SECTORS
 MODEL, SERIAL, FIRMWARE, RPM = "A DISK FOR TOOLS", "TOOLS-0001", "FIRM0123", 7200
 OPTIONS = ["--write-cache", "--model", MODEL, "--serial", SERIAL, "--firmware", FIRMWARE, "--rpm", str(RPM)]
 DATA = pattern(1 << 20, "tools")
+DRAT_AND_RZAT, LOG_DRAT_AND_RZAT = 1 << 14 | 1 << 5, 1 << 39 | 1 << 31  # ACS-3, "IDENTIFY DEVICE", word 69, and "Supported Capabilities" of "IDENTIFY DEVICE data log"
 
 
 def wide_name(serial: str, model: str) -> int:
@@ -83,7 +84,7 @@ FILE_SYSTEMS = [r"init \(1\): drop_caches: 3", r"(EXT4-fs|XFS) \(sda\): (mounted
 
 NAMED = [rf"Device Model:     {MODEL}", rf"Serial Number:    {SERIAL}", rf"Firmware Version: {FIRMWARE}", rf"User Capacity:    {BYTES:,} bytes \[536 MB\]",
          r"Sector Size:      512 bytes logical/physical",
-         rf"Rotation Rate:    {RPM} rpm", r"TRIM Command:     Available", r"ATA Version is:   ACS-3.*", rf"LU WWN Device Id: 3 {NAME >> 36 & 0xFFFFFF:06x} {NAME & (1 << 36) - 1:09x}"]
+         rf"Rotation Rate:    {RPM} rpm", r"TRIM Command:     Available, deterministic, zeroed", r"ATA Version is:   ACS-3.*", rf"LU WWN Device Id: 3 {NAME >> 36 & 0xFFFFFF:06x} {NAME & (1 << 36) - 1:09x}"]
 PASSED = r"SMART overall-health self-assessment test result: PASSED"
 HEALTHY = [*NAMED, PASSED, r"APM feature is:   Disabled", r"Rd look-ahead is: Enabled", r"Write cache is:   Enabled", r"SMART support is: Enabled",
            r"General Purpose Log Directory Version 1", r"No Errors Logged",
@@ -102,7 +103,8 @@ def features(cache: str = "*", ahead: str = "*", apm: str = "") -> List[str]:
            ("*", "SMART self-test"), ("*", "General Purpose Logging feature set"), ("*", "WRITE_UNCORRECTABLE_EXT command"),
            ("*", "{READ,WRITE}_DMA_EXT_GPL commands"), ("*", "Gen1 signaling speed (1.5Gb/s)"), ("*", "Gen2 signaling speed (3.0Gb/s)"),
            ("*", "Native Command Queueing (NCQ)"), ("*", "Phy event counters"), ("*", "64-bit World wide name"), ("*", "WRITE_{DMA|MULTIPLE}_FUA_EXT"),
-           ("*", "WRITE BUFFER DMA command"), ("*", "READ BUFFER DMA command"), ("*", "Data Set Management TRIM supported (limit 8 blocks)")]
+           ("*", "WRITE BUFFER DMA command"), ("*", "READ BUFFER DMA command"), ("*", "Data Set Management TRIM supported (limit 8 blocks)"),
+           ("*", "Deterministic read ZEROs after TRIM")]
     return [rf"Model Number:       {MODEL}", rf"Serial Number:      {SERIAL}", rf"Firmware Revision:  {FIRMWARE}",
             rf"LBA    user addressable sectors: +{SECTORS}", rf"LBA48  user addressable sectors: +{SECTORS}",
             r"R/W multiple sector transfer: Max = 16\tCurrent = \?", rf"Logical Unit WWN Device Identifier: {NAME:016x}",
@@ -124,14 +126,15 @@ SAYS: Sequence[Tuple[str, List[str]]] = (
     ("bad", [r"Corrupting sector 1000 \(WRITE_UNC_EXT as pseudo\): succeeded"]), ("sector_bad", [UNREAD]),
     ("sector_next", [r"reading sector 1001: succeeded"]), ("read_bad", [NO_READ]), ("repaired", [r"re-writing sector 1000: succeeded"]), ("read_again", [r"1\+0 records in"]),
     ("flagged", [r"Corrupting sector 1000 \(WRITE_UNC_EXT as flagged\): succeeded"]), ("sector_flagged", [UNREAD]), ("beyond", [NOT_FOUND]),
-    ("zeroed", [r"re-writing sector 1000: succeeded"]), ("phy", [r"Command failed and ICRC error bit set in Error register: 0", r"Signature device-to-host register FISes due to COMRESET: \d+"]),
+    ("zeroed", [r"re-writing sector 1000: succeeded"]), ("trimmed", [r"trimming 8 sectors from 1 ranges", r"succeeded"]), ("phy", [r"Command failed and ICRC error bit set in Error register: 0", r"Signature device-to-host register FISes due to COMRESET: \d+"]),
     *((name, [r"SCSI Status: Good"]) for name in ("host_pio", "host_dma", "host_smart")),
     ("discard", [rf"0 512 0 1 {BYTES} {FIRMWARE[4:]} {re.escape(MODEL.replace(' ', chr(92) + 'x20'))}"]),
     ("blkdiscard", [rf"/dev/sda: Discarded {BYTES} bytes from the offset 0"]), ("blkdiscard_part", [r"/dev/sda: Discarded 4194304 bytes from the offset 1048576"]),
+    ("discarded", [rf"{digest(DATA + bytes(4 << 20) + DATA + bytes(1 << 20))}  -"]),
     ("end", [*HEALTHY, LONG.format(1), SHORT.format(2)]))
 
 
-# those of a disk as it is without options, but for --rpm 1
+# those of a disk as it is without options, but for --rpm 1 and --trim advice
 PLAIN: Sequence[Tuple[str, List[str]]] = (
     ("plain_identify", [r"Model Number:       SOFTWARE NCQ DISK", r"Serial Number:      00000001", r"Firmware Revision:  1\.0", r"LBA48  user addressable sectors: +131072",
                         r"Nominal Media Rotation Rate: Solid State Device", r"\*\tLook-ahead", r"Advanced power management level: disabled"]),
@@ -205,14 +208,20 @@ def pages_right(runs: Dict[str, Run]) -> None:
     expect(pages["log_0x30_2"][8:16] == (1 << 63 | SECTORS).to_bytes(8, "little"), "page 02h of log 30h has another capacity")
     expect(all(pages[f"log_0x30_{it}"][:8] == (1 << 63 | it << 16 | 1).to_bytes(8, "little") for it in range(2, 7)), "the header of a page of log 30h is wrong")
     expect(sum(words[108 + it] << 48 - 16 * it for it in range(4)) == NAME and pages["log_0x30_3"][56:64] == NAME.to_bytes(8, "little"), "the world wide name is another")
+    zeros = (words[69] & DRAT_AND_RZAT == DRAT_AND_RZAT, int.from_bytes(pages["log_0x30_3"][8:16], "little") & LOG_DRAT_AND_RZAT == LOG_DRAT_AND_RZAT)
+    expect(zeros == (True, True), f"that trimmed sectors are zeros is not in word 69 and page 03h of log 30h: {zeros}")
     same = [(8, 10, 10), (32, 23, 4), (48, 27, 20)]
     expect(all(pages["log_0x30_5"][at:at + 2 * count] == pages["log_0x30_1"][2 * word:2 * (word + count)] for at, word, count in same), "page 05h of log 30h has other texts than IDENTIFY DEVICE")
 
 
 def sectors_right(runs: Dict[str, Run]) -> None:
-    """A sector as hdparm reads it: one that was made bad is zeros once hdparm has written it."""
-    wanted = [(name, DATA[:512] if name == "sector" else bytes(512)) for name in ("sector", "sector_next", "sector_again", "sector_zeroed")]
-    for name, content in wanted:
+    """A sector as hdparm reads it: one that was made bad is zeros once hdparm has written it, and so is one that was trimmed, and not those beside it."""
+    zeros = ("sector_next", "sector_again", "sector_zeroed", "sector_2001", "sector_2008")
+    has_sectors(runs, {"sector": DATA[:512], "sector_2000": DATA[:512], "sector_2009": DATA[9 * 512:10 * 512], **dict.fromkeys(zeros, bytes(512))})
+
+
+def has_sectors(runs: Dict[str, Run], wanted: Dict[str, bytes]) -> None:
+    for name, content in wanted.items():
         found = b"".join(it.to_bytes(2, "big") for it in words_of(runs[name].lines, ""))
         swapped = b"".join(found[it:it + 2][::-1] for it in range(0, 512, 2))
         expect(content in (found, swapped), f"{name} is {found.hex()}")
@@ -261,8 +270,10 @@ def tools(room: str) -> str:
 
 
 def plain(room: str) -> str:
-    """The same on a disk without a write cache that doesn't rotate: they say so, and a write cache can't be enabled."""
-    guest, runs = performed(room, ["--rpm", "1"], 131072, PLAIN, more="disk=plain")
+    """The same on a disk without a write cache that doesn't rotate and whose trims are advice: they say so, a write cache can't be enabled, and a trimmed sector stays."""
+    guest, runs = performed(room, ["--rpm", "1", "--trim", "advice"], 131072, PLAIN, more="disk=plain")
+    expect(not any("Deterministic" in line for line in runs["plain_identify"].lines), "hdparm names zeros, and trims are advice")
+    has_sectors(runs, {"plain_sector": DATA[:512]})
     expect(not any(re.fullmatch(r"\*?\s*Write cache", line) for line in runs["plain_identify"].lines), "hdparm names a write cache, and the disk has none")
     expect(guest.codes().get(0xE7, 0) + guest.codes().get(0xEA, 0) == 0, "Linux flushes a write cache, and the disk has none")
     return f"{len(runs)} runs without a complaint"

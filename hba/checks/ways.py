@@ -18,6 +18,7 @@ import served
 import shipped
 import surviving
 import tools
+import trimming
 from harness import by
 from images import PROXY, VFIO_USER
 from suite import Check, Skipped
@@ -33,7 +34,8 @@ BARE = ["Garbage", "Memory that never comes", "Reads that fail", "Rules", "Much 
         "A kill after an answer", "A kill after an answer, with a slow record", "A slow record", "A record without room", "The judge, faults of a driver",
         "The judge, drivers without a fault", "The judge, from a stretch on", "Power losses, with a cache", "Power losses, without a cache",
         "Power losses, a large disk", "Power losses that are wrong", "Power losses and a kill", "Power losses without an image that can be written",
-        "Power losses, 2,000"]
+        "Power losses, 2,000", "Trims", "Trims without memory", "Trims, as they are reported", "Trims that are not in the image", "Trims and a kill",
+        "Trims that fail", "A trim of 2 TiB", "Trims and a limit of the record"]
 # these run by the proxy, too
 ALSO = ["SeaBIOS and a boot sector", "SeaBIOS and an error", "Linux, flushes and a kill", "Garbage", "A killed guest", "Rules", "Reads that fail", "A kill after an answer",
         "The judge, faults of a driver", "The judge, drivers without a fault"]
@@ -67,6 +69,6 @@ def ways_of(check: Check, has_new: bool) -> List[Check]:
 def checks() -> List[Check]:
     has_new = has_qemu(VFIO_USER)
     both = [*rough.CHECKS, *recording.CHECKS, *booting.CHECKS, *debian.CHECKS, *judging.CHECKS, *provoked.CHECKS, *recovered.CHECKS, *surviving.CHECKS,
-            *shipped.CHECKS, *firmware.CHECKS, *losing.CHECKS, *others.CHECKS, *tools.CHECKS]
+            *shipped.CHECKS, *firmware.CHECKS, *losing.CHECKS, *others.CHECKS, *tools.CHECKS, *trimming.CHECKS]
     found = [it for check in both for it in ways_of(check, has_new)] + served.CHECKS
     return found if has_new else [Check(missing_qemu, title="A QEMU with vfio-user"), *found]

@@ -37,7 +37,9 @@ plain() {
     run plain_set_settings smartctl -g all /dev/sda
     run plain_offline smartctl -t offline /dev/sda
     run plain_conveyance smartctl -t conveyance /dev/sda
+    dd if=/data of=/dev/sda bs=512 count=8 seek=1000 oflag=direct 2> /dev/null
     run plain_trim hdparm --please-destroy-my-drive --trim-sector-ranges 1000:8 /dev/sda
+    run plain_sector hdparm --read-sector 1000 /dev/sda
     run plain_discard lsblk -D -b -n -r -o DISC-ALN,DISC-GRAN,DISC-ZERO,ROTA,SIZE,REV /dev/sda
     run plain_end smartctl -x /dev/sda
 }
@@ -88,6 +90,11 @@ run sector_flagged hdparm --read-sector 1000 /dev/sda
 run beyond hdparm --read-sector "$(cat /sys/block/sda/size)" /dev/sda
 run zeroed hdparm --yes-i-know-what-i-am-doing --write-sector 1000 /dev/sda
 run sector_zeroed hdparm --read-sector 1000 /dev/sda
+dd if=/data of=/dev/sda bs=512 count=10 seek=2000 oflag=direct 2> /dev/null
+run trimmed hdparm --please-destroy-my-drive --trim-sector-ranges 2001:8 /dev/sda
+for it in 2000 2001 2008 2009; do
+    run "sector_$it" hdparm --read-sector $it /dev/sda
+done
 for it in 0x00 0x03 0x04 0x07 0x10 0x11 0x30; do
     run "log_$it" sg_sat_read_gplog -H -L $it /dev/sda
 done
@@ -113,7 +120,11 @@ trim ext4
 mkfs.xfs -q -f -K /dev/sda
 trim xfs
 run blkdiscard blkdiscard -f -v /dev/sda
+for it in 0 1 4 5; do
+    dd if=/data of=/dev/sda bs=1M seek=$it oflag=direct 2> /dev/null
+done
 run blkdiscard_part blkdiscard -f -v -o 1048576 -l 4194304 /dev/sda
+run discarded sh -c 'dd if=/dev/sda bs=1M count=7 iflag=direct 2> /dev/null | sha256sum'
 run mkfs_ext4 mkfs.ext4 -q -F /dev/sda
 run mkfs_xfs mkfs.xfs -q -f /dev/sda
 run end smartctl -x /dev/sda

@@ -6,13 +6,13 @@ import struct
 from typing import Callable, List, Sequence, Tuple
 
 from power_loss import judge_end, judge_losses
-from records import ACCEPT, COLLECT, ENTRY, FAIL, FLUSH, HEADER, LEFT, LOSS, MAGIC, RESET, SECTOR, SERVE, WRITE, Record
+from records import ACCEPT, COLLECT, ENTRY, FAIL, FLUSH, HEADER, LEFT, LOSS, MAGIC, RESET, SECTOR, SERVE, WRITE, ZERO, Record
 from suite import Check, expect
 
 SECTORS = 8
 
-# The steps: "w TAG LBA CONTENTS" issues a write, a letter for each of its sectors, "f .." one with FUA; "s TAG.." carries out, "c TAG" answers, "flush", "reset"; "x TAG" fails it. The disk
-# begins with the letter `o` in each sector. Then what a loss has left of sectors 0 to 7, whether there is a cache, and whether the rule allows it.
+# The steps: "w TAG LBA CONTENTS" issues a write, a letter for each of its sectors, "f .." one with FUA; "s TAG.." carries out, "c TAG" answers, "flush", "reset"; "x TAG" fails it; "z LBA COUNT"
+# makes sectors zeros, which are dots. The disk begins with the letter `o` in each sector. Then what a loss has left of sectors 0 to 7, whether there is a cache, and whether the rule allows it.
 Case = Tuple[str, str, bool, bool]
 CASES: Sequence[Case] = (
     # a write that was answered: kept or lost as a whole, with a cache; else kept
@@ -42,6 +42,18 @@ CASES: Sequence[Case] = (
     ("w 1 0 a; w 2 0 b", "aooooooo", False, True), ("w 1 0 a; w 2 0 b", "booooooo", False, True),
     # what was dropped or has failed has written nothing; what was carried out before is unflushed
     ("w 1 2 aa; reset", "ooaaoooo", True, False), ("w 1 2 aa; reset", "oooooooo", True, True), ("w 1 2 aa; s 1; reset", "ooaooooo", False, True), ("w 1 2 aa; x 1", "ooaaoooo", True, False),
+    # a trim: each sector by itself is zeros or as before with a cache, until a flush; else zeros
+    ("z 2 2", "oo..oooo", True, True), ("z 2 2", "oooooooo", True, True), ("z 2 2", "oo.ooooo", True, True), ("z 2 2", "oo..o.oo", True, False), ("z 2 2", "oob.oooo", True, False),
+    ("z 2 2", "oo..oooo", False, True), ("z 2 2", "oooooooo", False, False), ("z 2 2", "ooo.oooo", False, False), ("z 2 2; reset", "oooooooo", True, True),
+    ("z 2 2; reset", "oooooooo", False, False), ("z 2 2; flush", "oo..oooo", True, True), ("z 2 2; flush", "oooooooo", True, False), ("flush; z 2 2", "oooooooo", True, True),
+    # a trim and a write, in the order in which they were carried out
+    ("w 1 2 aa; s 1; c 1; z 2 2", "ooaaoooo", True, True), ("w 1 2 aa; s 1; c 1; z 2 2", "oooooooo", True, True), ("w 1 2 aa; s 1; c 1; z 2 2", "oo..oooo", True, True),
+    ("w 1 2 aa; s 1; c 1; z 2 1", "oo.aoooo", True, True), ("w 1 2 aa; s 1; c 1; z 2 1", "oo.ooooo", True, True), ("w 1 2 aa; s 1; c 1; z 2 1", "ooaooooo", True, False),
+    ("w 1 2 aa; s 1; c 1; z 2 1", "ooaaoooo", False, False), ("z 2 2; w 1 2 a; s 1; c 1", "ooa.oooo", True, True), ("z 2 2; w 1 2 a; s 1; c 1", "ooaooooo", True, True),
+    ("z 2 2; w 1 2 a; s 1; c 1", "oo.ooooo", True, True), ("z 2 2; w 1 2 a; s 1; c 1", "oo..oooo", False, False), ("z 2 2; f 1 2 a; s 1; c 1", "oo..oooo", True, False),
+    ("z 2 2; z 3 2", "oo.o.ooo", True, True), ("z 2 2; flush; z 3 2", "oo...ooo", True, True), ("z 2 2; flush; z 3 2", "oo.ooooo", True, False),
+    # zeros that become zeros stay, and come back as what was before them if they were unflushed
+    ("w 1 2 ..; s 1; c 1; flush; z 2 2", "oo..oooo", True, True), ("w 1 2 ..; s 1; c 1; flush; z 2 2", "oooooooo", True, False), ("w 1 2 ..; s 1; c 1; z 2 2", "oooooooo", True, True),
 )
 
 
@@ -50,7 +62,7 @@ def entry(kind: int, tag: int = 0, flag: int = 0, count: int = 0, lba: int = 0, 
 
 
 def letters(text: str) -> bytes:
-    return b"".join(it.encode("ascii") * SECTOR for it in text)
+    return b"".join((bytes(1) if it == "." else it.encode("ascii")) * SECTOR for it in text)
 
 
 def step(text: str) -> bytes:
@@ -64,13 +76,16 @@ def step(text: str) -> bytes:
         return entry(SERVE, count=len(tags), data=tags.ljust(8, b"\0"))
     if words[0] == "x":
         return entry(FAIL, int(words[1]), 0x10)
+    if words[0] == "z":
+        return entry(ZERO, lba=int(words[1]), count=int(words[2]))
     return entry({"c": COLLECT, "flush": FLUSH, "reset": RESET}[words[0]], int(words[1]) if words[1:] else 0)
 
 
-def recorded(folder: str, entries: List[bytes]) -> Record:
+def recorded(folder: str, entries: List[bytes], sectors: int = SECTORS) -> Record:
+    """A record of a disk that begins with the letter `o` in the first eight sectors."""
     os.makedirs(folder)
     with open(os.path.join(folder, "part.000001"), "wb") as file:
-        file.write(HEADER.pack(MAGIC, SECTORS, 32, 0, 0) + entry(0, count=SECTORS, data=letters("o" * SECTORS)) + b"".join(entries))
+        file.write(HEADER.pack(MAGIC, sectors, 32, 0, 0) + entry(0, count=SECTORS, data=letters("o" * SECTORS)) + b"".join(entries))
     return Record(folder)
 
 
@@ -93,4 +108,16 @@ def cases(room: str) -> str:
     return f"{len(CASES)} cases"
 
 
-CHECKS = [Check(cases, title="losses of power")]
+def far(room: str) -> str:
+    """A trim of 32 GiB all over a disk of 2 TiB: what is zeros already needs no memory, and the disk's first sectors are judged as those of a small disk are."""
+    sectors = (1 << 32) - 1
+    trims = [entry(ZERO, lba=lba, count=65535) for lba in range(0, sectors - 65535, 64 * 65535)]
+    found = (("........", True, True), ("o.oo....", True, True), ("bbbbbbbb", True, False), ("........", False, True), ("ooo.oooo", False, False))
+    for at, (left, has_cache, is_allowed) in enumerate(found):
+        record = recorded(os.path.join(room, f"far{at}"), [*trims, entry(LOSS), entry(LEFT, count=SECTORS, data=letters(left))], sectors)
+        losses = judge_losses(record, has_cache)
+        expect(len(losses) == 1 and (not losses[0].fault) == is_allowed, f"{left} with{'' if has_cache else 'out'} a cache: {losses}")
+    return f"{len(trims)} ranges"
+
+
+CHECKS = [Check(cases, title="losses of power"), Check(far, title="a trim of a large disk, and a loss of power")]

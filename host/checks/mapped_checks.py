@@ -8,7 +8,7 @@ import signal
 import stat
 import subprocess
 import time
-from typing import List, Tuple
+from typing import List, Sequence, Tuple
 
 import pace
 from files import MIB, contents, limited, made, small_room
@@ -16,18 +16,20 @@ from probe import PROBE, SECONDS, Probe, probed
 from suite import Check, Failed, expect
 
 PAGE = 4096
+ZEROED = -1  # in the place of a fill's byte: the sectors become zeros, without bytes
 
 
 def filled(data: bytes, *fills: Tuple[int, int, int]) -> bytes:
     """These bytes after some fills: LBA, count and byte."""
     new = bytearray(data)
     for lba, count, byte in fills:
-        new[lba * 512:(lba + count) * 512] = bytes((byte,)) * (count * 512)
+        new[lba * 512:(lba + count) * 512] = bytes((max(byte, 0),)) * (count * 512)
     return bytes(new)
 
 
 def line(fill: Tuple[int, int, int]) -> str:
-    return "fill {} {} {:x}".format(*fill)
+    lba, count, byte = fill
+    return f"zero {lba} {count}" if byte == ZEROED else f"fill {lba} {count} {byte:x}"
 
 
 def names(image: str) -> List[str]:
@@ -100,6 +102,25 @@ def in_place(room: str) -> str:
     return f"{before.st_blocks} blocks before, {after.st_blocks} after"
 
 
+def zeroed(room: str) -> str:
+    """Sectors that become zeros take no room in the journal, and their pages become holes; sectors beside them stay, and so do those that are written there later. Where there are no
+    holes, zeros are written."""
+    image = os.path.join(room, "disk")
+    data = made(image, 4 * MIB)
+    before = os.stat(image).st_blocks
+    fills = ((1000, 3, 1), (13, 7003, ZEROED), (2000, 1, 2), (1500, 2, 3), (1500, 1, ZEROED), (8184, 8, ZEROED))  # what is written is in the first MiB, to which a limit is
+    said = probed(["mapped", image, "0"], [line(it) for it in fills], preexec_fn=limited, restore_signals=False)
+    expect(said == ["disk 8192"] and contents(image) == filled(data, *fills) and names(image) == [], f"the image has other sectors: {said}")
+    after = os.stat(image).st_blocks
+    expect(after <= before - 8 * 870, f"zeros took {after} blocks, and there were {before}")
+    made(image, 4 * MIB)
+    words = ["strace", "-f", "-o", "/dev/null", "-e", "inject=fallocate:error=EOPNOTSUPP", PROBE, "mapped", image, "8200"]
+    done = pace.ran(words, SECONDS, input="".join(f"{line(it)}\n" for it in fills), stdout=subprocess.PIPE, stderr=subprocess.PIPE, text=True,
+                    env={**os.environ, "ASAN_OPTIONS": "detect_leaks=0"})
+    expect(done.returncode == 0 and contents(image) == filled(data, *fills) + bytes(8 * 512), f"without holes the image has other sectors: {done.stderr}")
+    return f"{before} blocks before, {after} after"
+
+
 def one_server(room: str) -> str:
     """A second server doesn't start with the same image, and a file that would be in the way of a journal is neither overwritten nor removed."""
     image = os.path.join(room, "disk")
@@ -122,27 +143,33 @@ def one_server(room: str) -> str:
     return "a lock, and five files"
 
 
-def left(image: str, data: bytes, byte: int) -> bytes:
-    """Leaves a whole journal beside an image of 2 MiB, of which the first half was written back: a limit of 1 MiB ends that. Returns what it should become."""
-    fills = ((0, 2, byte), (1000, 9, byte), (4000, 96, byte))
+def left(image: str, data: bytes, fills: Sequence[Tuple[int, int, int]], pages: int) -> bytes:
+    """Leaves a whole journal of so many pages beside an image of 2 MiB. A limit of 1 MiB ends the write-back at the last fill, which is beyond that. Returns what the image should become."""
     probe = Probe(["mapped", image, "0"], preexec_fn=limited, restore_signals=False)
     expect(probe.answer() == "disk 4096", "it did not start")
     for it in fills:
         probe.send(line(it))
     said = probe.ask("save")
-    expect(said == f"said --image {image}: it can't be written back: File too large; {image}.journal has the 15 pages, for the next write-back or the next server", said)
+    expect(said == f"said --image {image}: it can't be written back: File too large; {image}.journal has the {pages} pages, for the next write-back or the next server", said)
     expect(probe.answer() != "saved 0", "the write-back counts as done")
     probe.kill()
-    expect(names(image) == ["disk.journal"] and contents(image) == filled(data, *fills[:2]), "the image is not half written")
+    expect(names(image) == ["disk.journal"] and contents(image) == filled(data, *fills[:-1]), "the image is not half written")
     return filled(data, *fills)
 
 
 def a_left_journal(room: str) -> str:
-    """A whole journal is applied at the start. One that is cut off anywhere, or has a wrong byte anywhere, is removed instead. One of an image of another
+    """A whole journal is applied at the start, with pages that become zeros or without. One that is cut off anywhere, or has a wrong byte anywhere, is removed instead. One of an image of another
     size is refused, and stays."""
+    fills = ((0, 2, 5), (1000, 9, 5), (4000, 96, 5))
+    count = is_applied(room, fills, 15) + is_applied(room, ((2504, 96, ZEROED), (8, 16, ZEROED), *fills), 15 + 12 + 2)
+    return f"two whole journals and {count} others"
+
+
+def is_applied(room: str, fills: Sequence[Tuple[int, int, int]], pages: int) -> int:
+    """Leaves a journal, and makes others of it. How many."""
     image = os.path.join(room, "disk")
     data = made(image, 2 * MIB)
-    wanted = left(image, data, 5)
+    wanted = left(image, data, fills, pages)
     half, journal = contents(image), contents(f"{image}.journal")
     draw = random.Random(8)
     torn = [journal[:at] for at in (0, 1, 7, 8, 63, 64, 65, 4096, len(journal) - 9, len(journal) - 1)] + [journal + b"\0", bytes(len(journal))]
@@ -160,9 +187,9 @@ def a_left_journal(room: str) -> str:
     expect(len(found) == 1 and f"is of an image of {2 * MIB} bytes, and this one has {MIB}" in found[0] and contents(f"{image}.journal") == journal, f"{found}")
     made(image, 2 * MIB)
     found = probed(["mapped", image, "0"], [])
-    expect(found[0] == f"said --image {image}: {image}.journal had 15 pages that a killed server was writing back; they are in the image now", f"{found}")
+    expect(found[0] == f"said --image {image}: {image}.journal had {pages} pages that a killed server was writing back; they are in the image now", f"{found}")
     expect(contents(image) == wanted and names(image) == [], "the journal was not applied, or stays")
-    return f"a whole journal and {len(torn)} others"
+    return len(torn)
 
 
 def mapped_beyond_a_limit(room: str) -> str:
@@ -239,7 +266,7 @@ def killed_at_each_call(room: str) -> str:
     sectors or all of the new ones."""
     image = os.path.join(room, "disk")
     data = made(image, 100 * PAGE)
-    fills = [(8, 1, 1), (30, 300, 0), (400, 8, 2), (1000, 24, 3)]
+    fills = [(8, 1, 1), (30, 300, 0), (395, 150, ZEROED), (400, 8, 2), (700, 96, ZEROED), (1000, 24, 3)]
     new = filled(data + bytes(1024 * 512 - len(data)), *fills)
     ends = {"old": 0, "new": 0, "starts": 0}
     for call in CALLS:
@@ -283,7 +310,7 @@ def killed_at_random(room: str) -> str:
     whole = made(image, 4 * MIB)
     counts = {"old": 0, "new": 0, "applied": 0, "removed": 0}
     for at in range(100):
-        fills = [(draw.randrange(7500), draw.randrange(1, 700), at % 255 + 1) for _ in range(draw.choice((1, 8, 60)))]
+        fills = [(draw.randrange(7500), draw.randrange(1, 700), draw.choice((ZEROED, at % 255 + 1))) for _ in range(draw.choice((1, 8, 60)))]
         probe = Probe(["mapped", image, "0"])
         probe.answer()
         for it in fills:
@@ -305,5 +332,5 @@ def killed_at_random(room: str) -> str:
     return ", ".join(f"{count} {what}" for what, count in counts.items())
 
 
-CHECKS = [Check(runs), Check(sizes_of_mapped), Check(in_place), Check(one_server), Check(a_left_journal), Check(mapped_beyond_a_limit), Check(no_room_for_a_journal, ["mount"]),
-          Check(shorter_and_replaced), Check(killed_at_each_call, ["strace"]), Check(killed_at_random)]
+CHECKS = [Check(runs), Check(sizes_of_mapped), Check(in_place), Check(zeroed, ["strace"]), Check(one_server), Check(a_left_journal), Check(mapped_beyond_a_limit),
+          Check(no_room_for_a_journal, ["mount"]), Check(shorter_and_replaced), Check(killed_at_each_call, ["strace"]), Check(killed_at_random)]

@@ -20,7 +20,7 @@ SECONDS = 240
 sys.dont_write_bytecode = True
 sys.path.insert(0, os.path.dirname(STRETCH))
 
-from records import COLLECT, LEFT, LOSS, READ, RESET, WRITE, Entry, Record  # noqa: E402
+from records import COLLECT, LEFT, LOSS, READ, RESET, WRITE, ZERO, Entry, Record  # noqa: E402
 
 
 def stretch(words: List[str], **more: Any) -> "subprocess.CompletedProcess[Any]":
@@ -82,7 +82,7 @@ def touched(record: Record, first: int, last: int) -> Set[int]:
     for it in record.entries(record.before(first)):
         if it.number > last:
             break
-        if it.kind in (READ, WRITE) and it.number >= first:
+        if it.kind in (READ, WRITE, ZERO) and it.number >= first:
             found.update(range(it.lba, it.lba + it.count))
     return found
 
@@ -123,7 +123,7 @@ def names_of(record: Record, script: str) -> List[int]:
             break
         if it.number == first:
             named.update(lba for command in outstanding.values() for lba in range(command.lba, command.lba + command.count))
-        if it.kind == LEFT and it.number >= first:
+        if it.kind in (LEFT, ZERO) and it.number >= first:
             named.update(range(it.lba, it.lba + it.count))
         elif it.kind in (READ, WRITE):
             outstanding[it.tag] = it

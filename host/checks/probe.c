@@ -4,7 +4,7 @@
      probe rules KIND SECTORS RULE..    lines "LBA COUNT r|w NUMBER MICROSECONDS": which rule applies to that command
      probe draws SEED COUNT             numbers of the generator
      probe pages                        lines "add LBA COUNT", "settle"
-     probe mapped FILE SECTORS          lines "fill LBA COUNT BYTE", "save", "show LBA"; it is saved at the end
+     probe mapped FILE SECTORS          lines "fill LBA COUNT BYTE", "zero LBA COUNT", "save", "show LBA"; it is saved at the end
      probe record FOLDER LIMIT SECTORS  lines of the record, see `record_line`
      probe least SECTORS COUNT          the smallest limit of a record
      probe events, fuzz                 scripts: see probe_events.h */
@@ -146,6 +146,9 @@ static void mapped_line(const char *line) {
     if (sscanf(line, "fill %" SCNu32 " %" SCNu32 " %" SCNx32, &lba, &count, &byte) == 3 && mapped_reserve(&mapped, 1)) {
         memset(bytes + (size_t)lba * SECTOR_BYTES, (int)byte, (size_t)count * SECTOR_BYTES);
         mapped_wrote(&mapped, lba, count);
+    } else if (sscanf(line, "zero %" SCNu32 " %" SCNu32, &lba, &count) == 2 && mapped_reserve(&mapped, 1)) {
+        memset(bytes + (size_t)lba * SECTOR_BYTES, 0, (size_t)count * SECTOR_BYTES);
+        mapped_zeroed(&mapped, lba, count);
     } else if (sscanf(line, "show %" SCNu32, &lba) == 1)
         printf("%02x\n", bytes[(size_t)lba * SECTOR_BYTES]);
     else
