@@ -20,7 +20,9 @@ lie_there size lba sectors some inside = grind (arith, nat_tests)
 
 -- a port that makes sectors zeros takes some of the disk's
 pub no_refusal : (port : PortView) (lba sectors : ℕ) → can_zero port ≡ true → 1 ≤ sectors → lba + sectors ≤ sectors_in port → zero_refusal port lba sectors ≡ None
-no_refusal port lba sectors can some inside = by (plain_refusal port) (list_any is_some port.windows) (lacks_sectors (sectors_in port) lba sectors) can (lie_there (sectors_in port) lba sectors some inside)
+no_refusal port lba sectors can some inside =
+    by (plain_refusal port) (list_any is_some port.windows) (lacks_sectors (sectors_in port) lba sectors) can
+    (lie_there (sectors_in port) lba sectors some inside)
   where
     by : (o : Option PlainFault) (owned lacks : Bool) → (not (is_some o) && not owned) ≡ true → lacks ≡ false
         → option_or (option_map zero_fault_of o) (cond (not owned) (cond lacks (Some zero.NoSuchSector) None) (Some zero.SlotOwned)) ≡ None
