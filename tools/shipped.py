@@ -1,5 +1,5 @@
 """The links of pages that are shipped without the repository around them: `tools/package` has the archive's pages by it, and
-tools/debian/links those of Debian's packages."""
+tools/debian/page_links those of Debian's packages."""
 from __future__ import annotations
 
 import os
