@@ -14,7 +14,7 @@ import playing
 from harness import FORGETFUL, HERE, PROGRAM, SANITIZED, SECTOR, Guest, blank, contents, environment, linux, makes, way_of
 from images import program
 from power_loss import Loss, judge_losses
-from records import LEFT, LOSS, ZERO, Record, State
+from records import FLUSH, LEFT, LOSS, SERVE, WRITE, ZERO, Entry, Record, State
 from suite import Check, Failed, expect
 
 LOSER = os.path.join(HERE, "checks", "loser")
@@ -57,6 +57,10 @@ def faults(found: Sequence[Loss]) -> List[str]:
     return [f"the loss at entry {it.number}: {it.fault}" for it in found if it.fault]
 
 
+def sectors_of(it: Entry) -> range:
+    return range(it.lba, it.lba + it.count)
+
+
 def changes(folder: str) -> Dict[str, int]:
     """How many losses have changed sectors, and how many have changed none."""
     record, count = Record(folder), {"changed": 0, "unchanged": 0}
@@ -71,8 +75,28 @@ def changes(folder: str) -> Dict[str, int]:
     return count
 
 
+def returned(folder: str) -> int:
+    """How many sectors came back at a loss that a trim had made zeros."""
+    record, count = Record(folder), 0
+    state = State(record)
+    before: Dict[int, bytes] = {}  # what a sector had that was trimmed since the last flush, and not written after that
+    was_lost = False
+    for it in record.entries():
+        if it.kind == FLUSH or (was_lost and it.kind != LEFT):
+            before.clear()
+        written = [state.commands[tag] for tag in it.data[:it.count]] if it.kind == SERVE else []
+        for lba in (lba for command in written if command.kind == WRITE for lba in sectors_of(command)):
+            before.pop(lba, None)
+        if it.kind == ZERO:
+            before.update({lba: state.disk.get(lba) for lba in state.disk.filled(it.lba, it.count)})
+        state.take(it)
+        was_lost = it.kind in (LOSS, LEFT)
+        count += sum(state.disk.get(lba) == before.get(lba) for lba in sectors_of(it)) if it.kind == LEFT else 0
+    return count
+
+
 def random_losses(room: str, options: Sequence[str], has_cache: bool, seeds: int, losses: int, sectors: int = 1024) -> str:
-    writes, trims, count = 0, 0, {"changed": 0, "unchanged": 0}
+    writes, trims, back, count = 0, 0, 0, {"changed": 0, "unchanged": 0}
     for seed in range(1, seeds + 1):
         folder = lost(room, seed, losses, options, sectors=sectors)
         found = judged(folder, losses, has_cache)
@@ -86,10 +110,12 @@ def random_losses(room: str, options: Sequence[str], has_cache: bool, seeds: int
         writes += sum(it.writes for it in found)
         kinds = [it.kind for it in Record(folder).entries()]
         trims += kinds[kinds.index(LOSS):].count(ZERO)
+        back += returned(folder)
         for how, times in changes(folder).items():
             count[how] += times
     expect(min(trims, *count.values()) > 0, f"of {sum(count.values())} losses {count}; {trims} ranges became zeros after the first")
-    return f"{seeds * losses} losses after {writes} writes and trims without a flush; {count['changed']} have changed sectors; {trims} ranges became zeros"
+    expect(back > 0 or not has_cache, "no sector came back that was trimmed")
+    return f"{seeds * losses} losses after {writes} writes and trims without a flush; {count['changed']} have changed sectors; {trims} ranges became zeros, {back} sectors came back"
 
 
 def with_cache(room: str) -> str:

@@ -38,6 +38,16 @@ class Port(Guest):
         self.write(PXIS, 0xFFFFFFFF)
         self.write(PXCMD, ST | FRE)
 
+    def reset_link(self) -> None:
+        """Stops the port, and resets the link, which ends what the device is busy with (section 10.4.2)."""
+        self.write(PXCMD, FRE)
+        while self.read(PXCMD) & CR:
+            pass
+        self.write(PXSCTL, 0x301)
+        self.write(PXSCTL, 0x300)
+        while self.read(PXSSTS) & 0xF != 3 or self.read(PXTFD) & 0x88:
+            pass
+
     def lay(self, slot: int, code: int, lba: int, count: int, data: int) -> None:
         """Lays out a command of a table of its own; one of 0 sectors has no data. DATA SET MANAGEMENT is one with TRIM, and `count` its blocks."""
         table, writes = TABLES + 0x100 * slot, code in WRITES

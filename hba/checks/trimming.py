@@ -19,7 +19,8 @@ from suite import Check, expect
 TRIMMER = os.path.join(HERE, "checks", "trimmer")
 SMALL, LARGE = 8192, 140_000  # sectors of a disk that is in memory, and of one that is over its image
 AREA = 8192  # sectors that are not zeros at first
-ABORTED = 0x04  # the error byte of a command that is aborted: ABRT alone (ACS-3, "Error field"), as of a trim with a range that is not on the disk ("DATA SET MANAGEMENT")
+ABORTED = ": error 04"  # what the driver prints of a command that is aborted, as a trim with a range that is not on the disk is (ACS-3, "DATA SET MANAGEMENT"): ABRT,
+NO_MEMORY = ": no memory"  # and of one whose answer finds no memory
 DRAT_AND_RZAT = 1 << 14 | 1 << 5  # of word 69 of IDENTIFY DEVICE
 Ranges = Sequence[Tuple[int, int]]
 
@@ -30,8 +31,8 @@ class Step(NamedTuple):
     prints: str = ""
 
 
-def trim(entries: Ranges, error: int = 0) -> Step:
-    return Step(["trim", list(entries)], f": error {error:02x}" if error else "")
+def trim(entries: Ranges, prints: str = "") -> Step:
+    return Step(["trim", list(entries)], prints)
 
 
 def steps_of(sectors: int) -> List[Step]:
@@ -46,7 +47,7 @@ def after(data: bytes, steps: Sequence[Step], zeros: bool = True) -> bytes:
     disk = bytearray(data)
     for words, prints in steps:
         name, rest = words[0], words[1:]
-        for lba, count in rest[0] if name == "trim" and zeros and not prints else ():
+        for lba, count in rest[0] if name == "trim" and zeros and prints != ABORTED else ():
             disk[SECTOR * lba:SECTOR * (lba + count)] = bytes(SECTOR * count)
         if name == "write":
             disk[SECTOR * rest[0]:SECTOR * (rest[0] + rest[1])] = bytes([rest[2]]) * (SECTOR * rest[1])
@@ -163,12 +164,21 @@ def failing(room: str) -> str:
     data = pattern(AREA * SECTOR, "trims")
     script = os.path.join(room, "trims.events")
     with open(script, "w", encoding="ascii") as file:
-        file.write("on 1st DATA SET MANAGEMENT do fail 04\non 3rd DATA SET MANAGEMENT do slow 20ms\n")
-    steps = [trim([(40, 8), (60, 1)], ABORTED), trim([(80, 8), (90, 9)]), trim([(120, 8)]), Step(["read", 0, AREA])]
+        file.write("on 1st DATA SET MANAGEMENT do fail 04\non 2nd DATA SET MANAGEMENT do no_memory\non 3rd DATA SET MANAGEMENT do slow 20ms\n")
+    steps = [trim([(40, 8), (60, 1)], ABORTED), trim([(80, 8), (90, 9)], NO_MEMORY), trim([(120, 8)]), Step(["read", 0, AREA])]
     image = image_of(room, SMALL, data)
     found = driven(room, ["--image", image, "--script", script], steps)
     expect(found == printed(steps, data) and contents(image) == after(data, steps), f"the driver prints {found}, or the image has other sectors")
-    return "one fails, one is slow"
+    return "one fails, one has no memory, one is slow"
+
+
+def delayed(room: str) -> str:
+    """A second of --delay comes before a trim's answer, and not before each of its 512 ranges."""
+    data, steps = pattern(AREA * SECTOR, "trims"), [trim([(8 * at, 1) for at in range(512)])]
+    image = image_of(room, SMALL, data)
+    found = driven(room, ["--image", image, "--delay", "1000000"], steps)
+    expect(found == ["trim"] and contents(image) == after(data, steps), f"the driver prints {found}, or the image has other sectors")
+    return "512 ranges"
 
 
 def all_of_a_large_disk(room: str) -> str:
@@ -227,5 +237,5 @@ def linux_trims(room: str) -> str:
 
 
 CHECKS = [Check(small_and_large, title="Trims"), Check(starved, title="Trims without memory"), Check(reported, title="Trims, as they are reported"),
-          Check(unmarked, title="Trims that are not in the image"), Check(killed, title="Trims and a kill"), Check(failing, title="Trims that fail"),
+          Check(unmarked, title="Trims that are not in the image"), Check(killed, title="Trims and a kill"), Check(failing, title="Trims that fail"), Check(delayed, title="Trims and a delay"),
           Check(all_of_a_large_disk, title="A trim of 2 TiB"), Check(limited, title="Trims and a limit of the record"), Check(linux_trims, title="Linux, trims")]

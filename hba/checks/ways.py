@@ -35,7 +35,7 @@ BARE = ["Garbage", "Memory that never comes", "Reads that fail", "Rules", "Much 
         "The judge, drivers without a fault", "The judge, from a stretch on", "Power losses, with a cache", "Power losses, without a cache",
         "Power losses, a large disk", "Power losses that are wrong", "Power losses and a kill", "Power losses without an image that can be written",
         "Power losses, 2,000", "Trims", "Trims without memory", "Trims, as they are reported", "Trims that are not in the image", "Trims and a kill",
-        "Trims that fail", "A trim of 2 TiB", "Trims and a limit of the record"]
+        "Trims that fail", "Trims and a delay", "A trim of 2 TiB", "Trims and a limit of the record"]
 # these run by the proxy, too
 ALSO = ["SeaBIOS and a boot sector", "SeaBIOS and an error", "Linux, flushes and a kill", "Garbage", "A killed guest", "Rules", "Reads that fail", "A kill after an answer",
         "The judge, faults of a driver", "The judge, drivers without a fault"]
