@@ -23,7 +23,7 @@ struct history {
 /* Begins the record. It returns 0, or -1 once it has printed why. */
 int history_begin(struct device *device);
 
-/* The record gets the pages of a large disk that sectors are in which become zeros by the next step. */
+/* Some sectors are about to become zeros: the record gets the pages of a large disk that they are in. */
 void history_touch(struct device *device, uint32_t lba, uint32_t sectors);
 
 /* Counts what the step of a slot's command has added to the journal. */

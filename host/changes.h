@@ -1,4 +1,5 @@
-/* What has changed of a disk since its image was written: pages that were written, and pages that became zeros, which have no bytes to be read. A page may be both. */
+/* What has changed of a disk since its image was written: pages that were written, and pages that became zeros, whose bytes needn't be read. A page
+   may be both. */
 #ifndef AHCI_HOST_CHANGES_H
 #define AHCI_HOST_CHANGES_H
 
@@ -6,7 +7,7 @@
 
 struct changes {
     struct pages written;
-    struct pages zeroed; /* all zeros, unless they are among those that were written */
+    struct pages zeroed; /* all zeros, unless they were written too */
 };
 
 /* Makes room for so many calls of changes_wrote and changes_zeroed. It returns false if there is no memory. */
