@@ -70,5 +70,5 @@ pub use span::Span;
 pub use store::{Store, blocks_of, leaves_disk};
 pub use task::Task;
 pub use tasks::task_of;
-pub use trim_range::{TrimRange, first_range, pass_first};
+pub use trim_range::{TrimRange, first_range, pass_first, ranges_come_in_order};
 pub use uncorrectable::Uncorrectable;

@@ -1,6 +1,6 @@
 //! The sectors that DATA SET MANAGEMENT with TRIM names (ACS-3, "LBA Range Entry").
 
-ghost use Rattle.std.specs.Prelude.{◌≡◌, ◌<◌, ◌≤◌, ◌/◌, ◌^◌, length, IfSome};
+ghost use Rattle.std.specs.Prelude.{◌≡◌, ◌≢◌, ℕ, ◌<◌, ◌≤◌, ◌/◌, ◌^◌, length, IfSome, None, Some};
 ghost use Rattle.hba_command.specs.TrimRange.{IsOnDisk, first_entry, first_passed, first_range, range_at, range_of};
 
 use crate::store::entry_at;
@@ -63,3 +63,12 @@ pub fn pass_first(bytes: &mut [u8])
         bytes[8 * index + 7] = 0;
     }
 }
+
+/// The ranges of a TRIM come one after the other, in the order of the data: no entry before the first one that names sectors names any, and once that one is passed
+/// over each other entry names what it named. Where there is no first one, none is left. The function changes nothing: it is there for its clauses.
+#[tactic(auto, using(crate::proofs::TrimLemmas::others_stay, crate::proofs::TrimLemmas::none_left))]
+pub fn ranges_come_in_order(bytes: &[u8])
+    ensures before { (first index : ℕ) → first_entry bytes.now ≡ Some first → index < first → range_at bytes.now index ≡ None }
+    ensures others { (first index : ℕ) → first_entry bytes.now ≡ Some first → index ≢ first → range_at (first_passed bytes.now) index ≡ range_at bytes.now index }
+    ensures none { (index : ℕ) → first_entry bytes.now ≡ None → index < length bytes.now / 8 → range_at bytes.now index ≡ None }
+{}
