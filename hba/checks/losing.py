@@ -310,5 +310,5 @@ CHECKS = [Check(with_cache, title="Power losses, with a cache"), Check(without_c
           Check(is_strict, title="Power losses that are wrong"), Check(killed, title="Power losses and a kill"), Check(refused, title="Power losses that can't be"),
           Check(unwritten, title="Power losses without an image that can be written"),
           Check(many_losses, title="Power losses, 2,000", is_long=True), Check(ext4, title="Linux, power losses of ext4"), Check(xfs, title="Linux, power losses of xfs", is_long=True),
-          Check(ext4_unflushed, title="Linux, power losses of ext4 without flushes"), Check(ext4_often, title="Linux, 50 power losses of ext4", is_long=True),
-          Check(xfs_often, title="Linux, 50 power losses of xfs", is_long=True)]
+          Check(ext4_unflushed, title="Linux, power losses of ext4 without flushes", is_long=True),
+          Check(ext4_often, title="Linux, 50 power losses of ext4", is_long=True), Check(xfs_often, title="Linux, 50 power losses of xfs", is_long=True)]
