@@ -1,6 +1,5 @@
 -- A queued read that finds a marked sector fails there, or is served if its request hasn't that sector.
-use Rattle.std.proofs.Common.{◌≡◌, ℕ, Bool, true, false, Option, None, Some, Result, Ok, Err, IfErr, if◌then◌else◌, ap, refl, subst, sym, ◌∙◌}
-use Rattle.hba_command.specs.declared.entry.PrdEntry.{PrdEntry}
+use Rattle.std.proofs.Common.{◌≡◌, ℕ, true, false, None, Some, if◌then◌else◌, ap, subst, sym, ◌∙◌}
 use Rattle.ahci_hba.specs.Failing.{Fails, own_in}
 use Rattle.ahci_hba.specs.HbaView.{HbaView}
 use Rattle.ahci_hba.specs.Queueing.{IsServed, command_at, list_in, task_in}

@@ -1,5 +1,5 @@
 -- Another disk is plugged in where its port is made.
-use Rattle.std.proofs.Common.{◌≡◌, ℕ, Bool, true, false, Option, None, Some, Result, Ok, Err, if◌then◌else◌}
+use Rattle.std.proofs.Common.{◌≡◌, ℕ, Bool, true, false, Option, None, Some, Ok, if◌then◌else◌}
 use Rattle.std.specs.Option.{option_map, option_or}
 use Rattle.ncq_core.specs.declared.disk_fault.DiskFault.{DiskFault}
 use Rattle.ncq_core.specs.DiskState.{over_fault}
