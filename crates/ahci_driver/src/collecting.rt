@@ -1,13 +1,14 @@
 //! How an answer is taken out of its slot, on a port whose lock is held.
 
 ghost use Rattle.std.specs.Prelude.{◌≡◌, Some, IsOk, IfOk, IsErrAnd, OnOk, OnErr, MatchOption, length};
-ghost use Rattle.ahci_table.specs.Fit.{IsFit};
+ghost use Rattle.ahci_table.specs.{Fit.{IsFit}, Prdt.{pieces}};
 ghost use Rattle.ahci_port.specs.{Slots.{bytes_in}, Steps.{IsCollected}};
 ghost use Rattle.ahci_driver.specs.{Settled.{answered_as}, Tickets.{answer_length, is_as_long, has_length, ticket_refusal}};
 
 use crate::ticket::Ticket;
 use ahci_port::{CollectFault, Outcome, Port, Reply};
-use ahci_table::Window;
+use ahci_table::{Piece, Window};
+use arrayvec::ArrayVec;
 use std::alloc::Allocator;
 
 /// Whether the buffer has the length of what is read; where nothing is read, any buffer will do.
@@ -23,16 +24,18 @@ fn is_as_long(read: Option<u64>, buffer: &[u8]) -> bool
 /// The bytes of a finished read, which are its window's text, in the buffer; no bytes otherwise.
 fn bytes_in<A: Allocator>(
     outcome: Outcome,
+    list: &[Piece],
     window: &Window<A>,
     mut buffer: Vec<u8, A>,
 ) -> Vec<u8, A>
     requires fit { IsFit window.now }
+    requires list { list.now ≡ pieces window.now }
     requires len { has_length outcome window.now (length buffer.items) }
     ensures text { result.items ≡ bytes_in outcome window.now }
     ensures length { length result.items ≡ answer_length outcome (length buffer.items) }
 {
     match outcome {
-        Outcome::Read => window.gather(0, &mut buffer),
+        Outcome::Read => window.gather_in(list, 0, &mut buffer),
         _ => buffer.clear(),
     }
     buffer
@@ -42,8 +45,10 @@ fn bytes_in<A: Allocator>(
 #[derive(Drop)]
 pub(crate) struct Answered<A: Allocator> {
     reply: Reply,
+    list: ArrayVec<Piece, 32>,
     window: Window<A>,
     buffer: Vec<u8, A>,
+    ghost listed: { list.items ≡ pieces window },
 }
 
 impl<A: Allocator> Answered<A> {
@@ -57,10 +62,11 @@ impl<A: Allocator> Answered<A> {
     {
         let Answered {
             reply,
+            list,
             window,
             buffer,
         } = self;
-        (reply, bytes_in(reply.outcome, &window, buffer))
+        (reply, bytes_in(reply.outcome, &list, &window, buffer))
     }
 }
 
@@ -86,13 +92,14 @@ pub(crate) fn take_locked<A: Allocator>(
     if !is_as_long(read, &ticket.buffer) {
         return Err((ticket, CollectFault::Stranger));
     }
-    let (reply, window) = match port.collect(ticket.tag, ticket.number) {
+    let (reply, list, window) = match port.collect_with_pieces(ticket.tag, ticket.number) {
         Ok(collected) => collected,
         Err(fault) => return Err((ticket, fault)),
     };
     let Ticket { buffer, .. } = ticket;
     Ok(Answered {
         reply,
+        list,
         window,
         buffer,
     })

@@ -2,13 +2,13 @@
 
 ghost use Rattle.std.specs.Prelude.{◌≡◌, ◌<◌, ◌≤◌, length};
 ghost use Rattle.ahci_port.specs.Slots.{bytes_in};
-ghost use Rattle.ahci_table.specs.Fit.{IsFit};
+ghost use Rattle.ahci_table.specs.{Fit.{IsFit}, Prdt.{pieces}};
 ghost use Rattle.ahci_ffi.specs.{Calls.{AnswersCollect}, Done.{HasCollected, HasLength}, Flat.{begun_with, flat_reply}, Refusals.{is_short, slot_refusal}};
 
 use crate::flat::FlatReply;
 use crate::status::Status;
 use ahci_port::{Outcome, Port, Reply};
-use ahci_table::Window;
+use ahci_table::{Piece, Window};
 use ncq_journal::Phase;
 use port_refusal::Refusal;
 use sector_store::SectorStore;
@@ -49,8 +49,8 @@ fn taken<A: Allocator, S: SectorStore>(
 {
     port.keeps_its_promise();
     let bytes = port.read_length(tag).unwrap_or(0);
-    match port.collect(tag, number) {
-        Ok((ended, window)) => copied(&ended, &window, bytes, out),
+    match port.collect_with_pieces(tag, number) {
+        Ok((ended, list, window)) => copied(&ended, &list, &window, bytes, out),
         // It is the slot's request, and done.
         Err(_) => unreachable!(),
     }
@@ -86,8 +86,15 @@ fn is_short(read: Option<u64>, room: usize) -> bool
 }
 
 /// The answer as a struct, and a finished read's bytes, which are its window's text, at the beginning of a buffer.
-fn copied<A: Allocator>(ended: &Reply, window: &Window<A>, bytes: u64, out: &mut [u8]) -> FlatReply
+fn copied<A: Allocator>(
+    ended: &Reply,
+    list: &[Piece],
+    window: &Window<A>,
+    bytes: u64,
+    out: &mut [u8],
+) -> FlatReply
     requires fit { IsFit window.now }
+    requires list { list.now ≡ pieces window.now }
     requires len { HasLength ended.now.outcome window.now bytes }
     requires room { bytes ≤ length out.old }
     ensures reply { result ≡ flat_reply ended.now.number ended.now.outcome ended.now.entry (length (bytes_in ended.now.outcome window.now)) }
@@ -105,7 +112,7 @@ fn copied<A: Allocator>(ended: &Reply, window: &Window<A>, bytes: u64, out: &mut
     };
     match outcome {
         Outcome::Read => {
-            window.gather(0, &mut out[..bytes as usize]);
+            window.gather_in(list, 0, &mut out[..bytes as usize]);
             FlatReply { bytes, ..flat }
         }
         Outcome::Wrote => FlatReply { outcome: 1, ..flat },

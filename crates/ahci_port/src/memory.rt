@@ -12,7 +12,7 @@ use std::marker::Model;
 pub(crate) struct Memory<A: Allocator = Global> {
     pub(crate) window: Window<A>,
     /// The window's pieces, as its PRDT named them when it was issued: a Data FIS reads no PRDT.
-    list: ArrayVec<Piece, 32>,
+    pub(crate) list: ArrayVec<Piece, 32>,
     /// The last DMA Setup.
     pub(crate) setup: [u8; 28],
     /// How many bytes of the text have moved since.
@@ -90,10 +90,23 @@ impl<A: Allocator> Host for Memory<A> {
         self.offset += payload.len() as u32;
     }
 
+    fn deliver_parts(&mut self, _head: &[u8; 4], payload: &[u8]) {
+        self.window.scatter_in(&self.list, self.offset, payload);
+        self.offset += payload.len() as u32;
+    }
+
     fn activate(&mut self, fis: &[u8; 4], out: &mut [u8]) {
         let (head, payload) = out.split_at_mut(4);
         head.copy_from_slice(&data_head());
         self.window.gather_in(&self.list, self.offset, payload);
         self.offset += payload.len() as u32;
+    }
+
+    fn at_hand(&self, len: usize) -> Option<&[u8]> {
+        self.window.part_in(&self.list, self.offset, len)
+    }
+
+    fn activate_at_hand(&mut self, _fis: &[u8; 4], len: usize) {
+        self.offset += len as u32;
     }
 }

@@ -14,7 +14,8 @@ ghost use Rattle.ahci_port.specs.{
 
 use crate::ended::Ended;
 use crate::memory::Memory;
-use ahci_table::{Command, Window};
+use ahci_table::{Command, Piece, Window};
+use arrayvec::ArrayVec;
 use ncq_core::Disk;
 use ncq_journal::{Outcome, Phase};
 use sector_store::SectorStore;
@@ -143,13 +144,14 @@ impl<A: Allocator> Slot<A> {
         &self.memory.window.bytes()[..20]
     }
 
-    /// How a request was answered that is done, and its window.
-    pub(crate) fn answer(self) -> (Ended, Window<A>)
+    /// How a request was answered that is done, the pieces of its window, and the window.
+    pub(crate) fn answer(self) -> (Ended, ArrayVec<Piece, 32>, Window<A>)
         requires { IsSome self.ended }
         ensures ended { self.ended ≡ Some result.0 }
-        ensures window { result.1 ≡ self.window }
+        ensures pieces { result.1.items ≡ pieces self.window }
+        ensures window { result.2 ≡ self.window }
     {
-        (self.ended.unwrap(), self.memory.window)
+        (self.ended.unwrap(), self.memory.list, self.memory.window)
     }
 }
 

@@ -3,13 +3,13 @@
 ghost use Rattle.std.specs.Prelude.{◌≡◌, IfErr, IfOk};
 ghost use Rattle.ahci_port.specs.Slots.{bytes_in};
 ghost use Rattle.ahci_script.specs.Said.{said};
-ghost use Rattle.ahci_table.specs.Fit.{IsFit};
+ghost use Rattle.ahci_table.specs.{Fit.{IsFit}, Prdt.{pieces}};
 ghost use Rattle.ahci_replay.specs.Commands.{EndsAt, outcome_said, step_said};
 
 use crate::unanswered::Unanswered;
 use ahci_port::{Outcome, Reply, Stepped};
 use ahci_script::ScriptAnswer;
-use ahci_table::Window;
+use ahci_table::{Piece, Window};
 use std::alloc::Allocator;
 
 /// The answer of a device's step, after which the next entry has the number `end`.
@@ -28,16 +28,18 @@ pub(crate) fn stepped<A: Allocator>(done: Stepped, end: u64) -> ScriptAnswer<A>
 pub(crate) fn collected<A: Allocator>(
     alloc: A,
     reply: Reply,
+    list: &[Piece],
     window: &Window<A>,
 ) -> Result<ScriptAnswer<A>, Unanswered>
-    requires { IsFit window.now }
+    requires fit { IsFit window.now }
+    requires list { list.now ≡ pieces window.now }
     ensures why { IfErr result (λ e. e ≡ Unanswered.OutOfMemory) }
     ensures says { IfOk result (λ answer. said answer ≡ outcome_said reply.outcome reply.entry (bytes_in reply.outcome window.now)) }
 {
     let entry = reply.entry;
     match reply.outcome {
         Outcome::Read => {
-            let bytes = window.text(alloc)?;
+            let bytes = window.text_in(list, alloc)?;
             Ok(ScriptAnswer::Read { entry, bytes })
         }
         Outcome::Wrote => Ok(ScriptAnswer::Wrote(entry)),

@@ -87,8 +87,8 @@ fn collect<A: Allocator + Copy>(
     ensures why { IfErr result (λ e. e ≡ Unanswered.OutOfMemory) }
     ensures lacking { OnErr result (refusal_on port.old (ScriptCommand.Collect tag number) ≡ None) }
 {
-    match port.collect(tag, number) {
-        Ok((reply, window)) => collected(*alloc, reply, &window),
+    match port.collect_with_pieces(tag, number) {
+        Ok((reply, list, window)) => collected(*alloc, reply, &list, &window),
         Err(fault) => Ok(ScriptAnswer::Refused(fault.into())),
     }
 }

@@ -1,11 +1,12 @@
 -- Texts that are joined of runs of bytes: what copying run by run leaves.
-use Rattle.std.proofs.Common.{◌≡◌, ℕ, suc, ◌+◌, ◌-◌, ◌<◌, ◌≤◌, min, true, false, ◌⊎◌, leb, ltb, List, [], ◌∷◌, ◌++◌, length, take, drop, get_or, ap, sym, refl, subst, ◌∙◌, arith, inl, inr}
-use Rattle.std.proofs.lemmas.List.{length-drop, length-append, length-take-le, nil_from_length}
-use Rattle.std.proofs.lemmas.Bool.{cases_lt, and_parts, and_from, and_left, and_right, or_from, or_parts, lt-leb, le-leb, lt-ltb, le-ltb, false≢true}
+use Rattle.std.proofs.Common.{◌≡◌, ℕ, suc, ◌+◌, ◌-◌, ◌<◌, ◌≤◌, min, true, false, ◌⊎◌, eqb, leb, ltb, List, [], ◌∷◌, ◌++◌, length, take, drop, get_or, ap, sym, refl, subst, ◌∙◌, arith, inl, inr}
+use Rattle.std.proofs.lemmas.List.{length-drop, length-append, length-take, length-take-le, nil_from_length, take-take, drop-drop, drop-take}
+use Rattle.std.proofs.Math.Seq.{take-add}
+use Rattle.std.proofs.lemmas.Bool.{cases_lt, and_parts, and_from, and_left, and_right, or_from, or_parts, lt-leb, le-leb, lt-ltb, le-ltb, eqb-true, false≢true}
 use Rattle.std.specs.List.{All, list_all}
 use borrow.Rule.Slice.PartMut.{put_mid}
 use Rattle.ahci_table.specs.declared.piece.Piece.{Piece}
-use Rattle.ahci_table.specs.Piece.{end_of, covers, is_apart, are_apart}
+use Rattle.ahci_table.specs.Piece.{end_of, covers, is_apart, are_apart, are_one_run, total}
 use Rattle.ahci_table.specs.Scatter.{in_some}
 use Rattle.ahci_table.specs.Text.{bytes_of, joined, replaced}
 use Rattle.ahci_table.proofs.PartLemmas.{replaced-append, part-put_mid, put_outside, length-put, same_part}
@@ -146,3 +147,37 @@ joined-scattered (p ∷ ps) skip from bytes h e within =
     ∙ ap (replaced (skip - lead) (drop count from)) same in
     ap (λ z. z ++ joined ps done) own ∙ ap (λ z. replaced lead (take count from) (bytes_of p bytes) ++ z) rest
     ∙ sym (replaced-append skip lead count from (bytes_of p bytes) (joined ps bytes) (ap (min skip) (sym len)) (ap (λ n. min (n - lead) (length from)) (sym len)))
+
+-- the text of pieces that lie one after the other is a part of the bytes
+one_run : (ps : List Piece) (bytes : List ℕ) (place : ℕ) → are_one_run place ps ≡ true → joined ps bytes ≡ take (total ps) (drop place bytes)
+one_run [] bytes place e = refl
+one_run (p ∷ ps) bytes place e =
+    let parts = and_parts (eqb p.at place) (are_one_run (end_of p) ps) e in
+    let same : p.at ≡ place = eqb-true p.at place parts.0 in
+    ap (λ xs. take p.len (drop p.at bytes) ++ xs) (one_run ps bytes (end_of p) parts.1 ∙ ap (take (total ps)) (sym (drop-drop p.len p.at bytes)))
+    ∙ sym (take-add p.len (total ps) (drop p.at bytes))
+    ∙ ap (λ k. take (p.len + total ps) (drop k bytes)) same
+
+-- and a part of it too
+pub one_run_part : (ps : List Piece) (bytes : List ℕ) (place offset len : ℕ) → are_one_run place ps ≡ true → offset + len ≤ length (joined ps bytes)
+    → take len (drop (place + offset) bytes) ≡ take len (drop offset (joined ps bytes))
+one_run_part ps bytes place offset len e fits =
+    let run = drop place bytes in
+    let is = one_run ps bytes place e in
+    let size = ap length is ∙ length-take (total ps) run in
+    let rest : total ps ≡ offset + (total ps - offset) = omega (arith, size) in
+    sym (
+    ap (λ xs. take len (drop offset xs)) is
+    ∙ ap (λ k. take len (drop offset (take k run))) rest
+    ∙ ap (take len) (drop-take offset (total ps - offset) run)
+    ∙ take-take len (total ps - offset) (drop offset run) (omega (arith, size))
+    ∙ ap (take len) (drop-drop offset place bytes))
+
+-- a part of pieces that are one run ends within the bytes
+pub part_ends : (ps : List Piece) (bytes : List ℕ) (first : Piece) (place offset len : ℕ) → All (λ p. end_of p ≤ length bytes) ps → 0 < length ps → first ≡ get_or ps 0 first
+    → place ≡ first.at → true ≡ are_one_run place ps → offset + len ≤ length (joined ps bytes) → first.at + offset + len ≤ length bytes
+part_ends ps bytes first place offset len inside some is begins e fits =
+    let size = ap length (one_run ps bytes place (sym e)) ∙ length-take (total ps) (drop place bytes) in
+    let d = length-drop place bytes in
+    let end : end_of first ≤ length bytes = subst (λ p. end_of p ≤ length bytes) (sym is) (inside 0 first some) in
+    omega arith

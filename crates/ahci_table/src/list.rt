@@ -2,7 +2,7 @@
 
 ghost use Rattle.std.specs.Prelude.{◌≡◌, ◌≤◌, length};
 ghost use Rattle.std.specs.List.{list_all};
-ghost use Rattle.ahci_table.specs.Piece.{are_apart, is_apart, total, furthest};
+ghost use Rattle.ahci_table.specs.Piece.{are_apart, are_one_run, is_apart, total, furthest};
 
 use crate::piece::{Piece, end_of, is_apart};
 
@@ -21,6 +21,20 @@ pub(crate) fn are_apart(pieces: &[Piece]) -> bool
         if !is_apart_from(piece, &pieces[index + 1..]) {
             return false;
         }
+    }
+    true
+}
+
+/// Whether the first piece begins at a place, and each other one where the piece before it ends.
+pub(crate) fn are_one_run(place: u64, pieces: &[Piece]) -> bool
+    ensures { result ≡ are_one_run place pieces.now }
+{
+    let mut end = place;
+    for piece in pieces {
+        if u64::from(piece.at) != end {
+            return false;
+        }
+        end = end_of(piece);
     }
     true
 }

@@ -1,7 +1,8 @@
 //! Moves between the outside and a window's text. The pieces of the text are in the window's PRDT; who moves data more
 //! than once reads them once, by `check`, and hands them in.
 
-ghost use Rattle.std.specs.Prelude.{◌≡◌, ◌+◌, ◌≤◌, length, take, drop, IfOk};
+ghost use Rattle.std.specs.Prelude.{◌≡◌, ◌+◌, ◌≤◌, length, take, drop, IfOk, IfSome};
+ghost use Rattle.std.specs.Option.{option_copied};
 ghost use Rattle.ahci_table.specs.Fit.{IsFit};
 ghost use Rattle.ahci_table.specs.Prdt.{pieces};
 ghost use Rattle.ahci_table.specs.Scatter.{IsScattered};
@@ -41,6 +42,17 @@ impl<A: Allocator> Window<A> {
         ensures { out.new ≡ take (length out.old) (drop offset (text self.now)) }
     {
         runs::gather(list, &self.bytes, offset as usize, out);
+    }
+
+    /// So many bytes of the text from an offset on as they lie in the window, whose pieces are at hand: nothing if these don't lie one after the
+    /// other.
+    pub fn part_in(&self, list: &[Piece], offset: u32, len: usize) -> Option<&[u8]>
+        requires fit { IsFit self.now }
+        requires list { list.now ≡ pieces self.now }
+        requires within { offset + len ≤ length (text self.now) }
+        ensures { IfSome (option_copied result) (λ bytes. bytes ≡ take len (drop offset (text self.now))) }
+    {
+        runs::part(list, &self.bytes, offset as usize, len)
     }
 
     /// Copies these bytes over those of the text from an offset on. No other byte of the text and no byte outside the

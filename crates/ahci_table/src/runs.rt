@@ -1,12 +1,14 @@
 //! Moves between a text and the runs of bytes that it is joined of.
 
-ghost use Rattle.std.specs.Prelude.{◌≡◌, ◌+◌, ◌≤◌, ℕ, true, false, length, take, drop, IfOk};
+ghost use Rattle.std.specs.Prelude.{◌≡◌, ◌+◌, ◌≤◌, ℕ, true, false, length, take, drop, IfOk, IfSome};
+ghost use Rattle.std.specs.Option.{option_copied};
 ghost use Rattle.std.specs.List.{All};
 ghost use Rattle.sata_fis.specs.Places.{byte};
 ghost use Rattle.ahci_table.specs.Piece.{are_apart, end_of};
 ghost use Rattle.ahci_table.specs.Scatter.{in_some};
 ghost use Rattle.ahci_table.specs.Text.{joined, replaced};
 
+use crate::list::are_one_run;
 use crate::piece::Piece;
 use std::alloc::{AllocError, Allocator};
 
@@ -47,6 +49,28 @@ pub(crate) fn scatter(pieces: &[Piece], bytes: &mut [u8], offset: usize, from: &
         skip -= lead;
         rest = &rest[count..];
     }
+}
+
+/// So many bytes of the text from an offset on as they lie in memory, where the pieces lie one after the other.
+#[tactic(auto, using(crate::proofs::RunLemmas::one_run_part))]
+pub(crate) fn part<'a>(
+    pieces: &[Piece],
+    bytes: &'a [u8],
+    offset: usize,
+    len: usize,
+) -> Option<&'a [u8]>
+    requires inside { All (λ p. end_of p ≤ length bytes.now) pieces.now }
+    requires within { offset + len ≤ length (joined pieces.now bytes.now) }
+    ensures { IfSome (option_copied result) (λ part. part ≡ take len (drop offset (joined pieces.now bytes.now))) }
+{
+    let Some(first) = pieces.first() else {
+        return None;
+    };
+    if !are_one_run(u64::from(first.at), pieces) {
+        return None;
+    }
+    let start = first.at as usize + offset;
+    Some(&bytes[start..start + len])
 }
 
 /// The text, in a `Vec` that takes its memory at once.

@@ -1,15 +1,16 @@
 -- Sectors joined to an image.
 use Rattle.std.proofs.Common.{◌≡◌, ℕ, ◌+◌, ◌-◌, ◌*◌, ◌/◌, ◌%◌, ◌<◌, ◌≤◌, List, [], ◌++◌, length, take, drop, Option, None, Some, ap, sym, ◌∙◌, arith, inl, inr, cond, ◌&&◌, leb, ltb, eqb, refl, zero, suc, length-append, length-drop, length-take}
 use Rattle.std.proofs.lemmas.Bool.{cases_lt, cases_eq, cond-true, cond-false, and_from, and_right, le-leb, lt-ltb, le-ltb, eq-eqb, ne_eqb}
-use Rattle.std.proofs.lemmas.List.{take_all, take_at, drop_all}
+use Rattle.std.proofs.lemmas.List.{take_all, take_at, drop_all, take-take, drop-drop, drop-take}
 use Rattle.std.proofs.Math.Seq.{drop-append-add}
 use Rattle.std.specs.List.{flat_map, range_with_len}
+use Rattle.std.specs.Option.{IfSome}
 use borrow.Rule.Slice.PartMut.{put_mid}
 use Rattle.ncq_journal.specs.Image.{sector_at, IsWrittenOver}
 use Rattle.ncq_journal.proofs.ImageLemmas.{joined-sectors}
 use Rattle.sector_store.specs.Layers.{Layers, page_or, page_now}
 use Rattle.sector_store.specs.Slots.{layers_of}
-use Rattle.sector_store.specs.Shown.{sector_over, sector_now, sector_kept, joined, HasWholePages, IsWrittenAt, AreWrittenAt}
+use Rattle.sector_store.specs.Shown.{sector_over, sector_now, sector_kept, joined, AreRead, HasWholePages, IsWrittenAt, AreWrittenAt}
 use Rattle.sector_store.proofs.SectorLemmas.{sector_at-put_one}
 
 -- every sector has 512 bytes
@@ -89,6 +90,14 @@ read-joined f n lba k out size len fits each =
     one : (i : ℕ) → i < k → sector_at out (0 + i) ≡ sector_at (joined f n) (lba + i)
     one i l = ap (sector_at out) (let e : 0 + i ≡ i = omega arith in e) ∙ each i l ∙ sym (sector_at-joined f n (lba + i) size (omega arith))
 
+-- if there is such a buffer, it is that part
+pub if-read-joined : (found : Option (List ℕ)) (f : ℕ → List ℕ) (n lba len : ℕ) → AreSectors f → len ≡ 512 * (len / 512) → lba + len / 512 ≤ n
+    → IfSome found (AreRead f lba) → IfSome found (λ bytes. length bytes ≡ len) → IfSome found (λ bytes. bytes ≡ take len (drop (512 * lba) (joined f n)))
+if-read-joined None f n lba len size whole fits each long = Prim.tt
+if-read-joined (Some bytes) f n lba len size whole fits each long =
+    read-joined f n lba (len / 512) bytes size (long ∙ whole) fits (λ i l. each i (omega (arith, long)))
+    ∙ ap (λ m. take m (drop (512 * lba) (joined f n))) (sym whole)
+
 -- each sector once some were written
 pub written-joined : (f g : ℕ → List ℕ) (n lba : ℕ) (bytes : List ℕ) → AreSectors f → AreSectors g → lba + length bytes / 512 ≤ n
     → ((s : ℕ) → g s ≡ cond (leb lba s && ltb s (lba + length bytes / 512)) (sector_at bytes (s - lba)) (f s)) → IsWrittenOver lba bytes (joined f n) (joined g n)
@@ -124,6 +133,30 @@ are_sectors_now below slots size whole s = sized_over (page_now (layers_of (slot
 
 pub are_sectors_kept : (below : ℕ → List ℕ) (slots : ℕ → Option Layers) → AreSectors below → HasWholePages slots → AreSectors (sector_kept below slots)
 are_sectors_kept below slots size whole s = sized_over (layers_of (slots (s / 8))).lower (below s) s (whole.lower (s / 8)) (size s)
+
+part_of_page : (page : List ℕ) (first n i : ℕ) → 512 * i + 512 ≤ n → sector_at (take n (drop (512 * first) page)) i ≡ sector_at page (first + i)
+part_of_page page first n i fits =
+    let rest : n ≡ 512 * i + (n - 512 * i) = omega arith in
+    let place : 512 * first + 512 * i ≡ 512 * (first + i) = omega arith in
+    let from = drop (512 * first) page in
+    ap (λ k. take 512 (drop (512 * i) (take k from))) rest
+    ∙ ap (take 512) (drop-take (512 * i) (n - 512 * i) from)
+    ∙ take-take 512 (n - 512 * i) (drop (512 * i) from) (omega arith)
+    ∙ ap (take 512) (drop-drop (512 * i) (512 * first) page ∙ ap (λ k. drop k page) place)
+
+-- bytes that are cut out of one page have its sectors
+pub page_run : (below : ℕ → List ℕ) (slots : ℕ → Option Layers) (page bytes : List ℕ) (lba n : ℕ) → page_now (layers_of (slots (lba / 8))) ≡ Some page → length page ≡ 4096
+    → n + lba % 8 * 512 ≤ 4096 → bytes ≡ take n (drop (512 * (lba % 8)) page) → (i : ℕ) → i < length bytes / 512 → sector_at bytes i ≡ sector_now below slots (lba + i)
+page_run below slots page bytes lba n is whole fits cut i inside =
+    let len : length bytes ≡ n = ap length cut ∙ length-take n (drop (512 * (lba % 8)) page) ∙ (let d = length-drop (512 * (lba % 8)) page in omega arith) in
+    let same : lba / 8 ≡ (lba + i) / 8 = omega arith in
+    let place : lba % 8 + i ≡ (lba + i) % 8 = omega arith in
+    let over = λ (q : ℕ). sector_over (page_now (layers_of (slots q))) (below (lba + i)) (lba + i) in
+    ap (λ xs. sector_at xs i) cut
+    ∙ part_of_page page (lba % 8) n i (omega arith)
+    ∙ ap (sector_at page) place
+    ∙ sym (ap (λ p. sector_over p (below (lba + i)) (lba + i)) is)
+    ∙ ap over same
 
 -- one more sector in a buffer
 pub read_more : (f : ℕ → List ℕ) (lba k m : ℕ) (out part : List ℕ) → m ≡ 512 → length part ≡ 512 → k * 512 + 512 ≤ length out → part ≡ f (lba + k)

@@ -9,6 +9,7 @@ mod layer;
 mod leaf;
 mod page;
 mod pages;
+mod run;
 mod sector_store;
 mod sectors;
 mod single;

@@ -86,6 +86,10 @@ impl<B: Base, A: Allocator + Copy> SectorStore for Pages<B, A> {
         self.read_run(lba, out);
     }
 
+    fn at_hand(&self, lba: u64, len: usize) -> Option<&[u8]> {
+        self.run_in_page(lba, len)
+    }
+
     fn read_starting(&self, lba: u64, out: &mut [u8]) {
         self.read_kept_run(lba, out);
     }

@@ -1,6 +1,7 @@
 //! What a disk needs of what holds its sectors.
 
-ghost use Rattle.std.specs.Prelude.{◌≡◌, ◌⊎◌, ℕ, ◌+◌, ◌*◌, ◌/◌, ◌<◌, ◌≤◌, Bool, true, not, ◌&&◌, ◌||◌, List, length, take, drop, OnOk, OnErr};
+ghost use Rattle.std.specs.Prelude.{◌≡◌, ◌⊎◌, ℕ, ◌+◌, ◌*◌, ◌/◌, ◌<◌, ◌≤◌, Bool, true, not, ◌&&◌, ◌||◌, List, length, take, drop, IfSome, OnOk, OnErr};
+ghost use Rattle.std.specs.Option.{option_copied};
 ghost use Rattle.ncq_journal.specs.Image.{IsWrittenOver, IsZeroedOver};
 ghost use Rattle.sector_store.specs.Reserved.{AreReserved, StayReserved};
 ghost use Rattle.sector_store.specs.Room.{MakesRoom};
@@ -35,6 +36,12 @@ pub trait SectorStore {
         requires whole { length out.old ≡ 512 * (length out.old / 512) }
         requires fits { 512 * lba + length out.old ≤ length (image self.now) }
         ensures { out.new ≡ take (length out.old) (drop (512 * lba) (image self.now)) };
+
+    /// So many bytes of whole sectors from `lba` on, as they are now, where the store has them in one run of memory.
+    fn at_hand(&self, lba: u64, len: usize) -> Option<&[u8]>
+        requires whole { len ≡ 512 * (len / 512) }
+        requires fits { 512 * lba + len ≤ length (image self.now) }
+        ensures { IfSome (option_copied result) (λ bytes. bytes ≡ take len (drop (512 * lba) (image self.now))) };
 
     /// Reads whole sectors from `lba` on, as many as `out` has, as they were when they were last kept.
     fn read_starting(&self, lba: u64, out: &mut [u8])

@@ -94,6 +94,13 @@ impl<A: Allocator> SectorStore for Sectors<A> {
         }
     }
 
+    fn at_hand(&self, lba: u64, len: usize) -> Option<&[u8]> {
+        match self {
+            Sectors::Whole(store) => store.at_hand(lba, len),
+            Sectors::Pages(store) => store.at_hand(lba, len),
+        }
+    }
+
     fn read_starting(&self, lba: u64, out: &mut [u8]) {
         match self {
             Sectors::Whole(store) => store.read_starting(lba, out),

@@ -2,6 +2,7 @@
 
 ghost use Rattle.std.specs.Prelude.{◌≡◌, ℕ, ◌+◌, ◌*◌, ◌/◌, ◌<◌, ◌≤◌, length, false, true, refl, IfOk};
 
+use crate::run::run_at;
 use crate::sector_store::SectorStore;
 use crate::zeroing::zero_sectors;
 use ncq_journal::{Journal, read_sectors, write_sectors};
@@ -60,6 +61,10 @@ impl<A: Allocator> SectorStore for Whole<A> {
 
     fn read(&self, lba: u64, out: &mut [u8]) {
         read_sectors(self.image.as_slice(), lba, out);
+    }
+
+    fn at_hand(&self, lba: u64, len: usize) -> Option<&[u8]> {
+        Some(run_at(self.image.as_slice(), lba, len))
     }
 
     fn read_starting(&self, lba: u64, out: &mut [u8]) {

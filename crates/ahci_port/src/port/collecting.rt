@@ -1,14 +1,15 @@
 //! How requests end: their answers are collected, and held commands are issued again.
 
 ghost use Rattle.std.specs.Prelude.{◌≡◌, Some, IfOk, OnOk, OnErr};
-ghost use Rattle.ahci_table.specs.Fit.{IsFit};
+ghost use Rattle.ahci_table.specs.{Fit.{IsFit}, Prdt.{pieces}};
 ghost use Rattle.ahci_port.specs.{Faults.{Answers, collect_refusal, reissue_refusal}, PortView.{window_at}, Slots.{bytes_in}, Steps.{IsCollected, IsReissued, answer_to}};
 
 use crate::fault::{CollectFault, ReissueFault};
 use crate::port::{Port, number_at};
 use crate::reply::Reply;
 use crate::software::issue;
-use ahci_table::Window;
+use ahci_table::{Piece, Window};
+use arrayvec::ArrayVec;
 use ncq_journal::{Event, Phase};
 use sector_store::SectorStore;
 use std::alloc::Allocator;
@@ -28,11 +29,33 @@ impl<A: Allocator, S: SectorStore> Port<A, S> {
         ensures fault { Answers result (collect_refusal self.old tag number) }
         ensures err { OnErr result (self.new ≡ self.old) }
     {
+        let (reply, _pieces, window) = self.collect_with_pieces(tag, number)?;
+        Ok((reply, window))
+    }
+
+    /// Takes an answer as `collect` does, with the window's pieces, so that its text can be moved by `gather_in` and the PRDT isn't read again.
+    ///
+    /// # Errors
+    /// Those of `collect`.
+    pub fn collect_with_pieces(
+        &mut self,
+        tag: u8,
+        number: u64,
+    ) -> Result<(Reply, ArrayVec<Piece, 32>, Window<A>), CollectFault>
+        ensures ok { OnOk result (IsCollected tag self.old self.new) }
+        ensures number { IfOk result (λ r. r.0.number ≡ number) }
+        ensures reply { IfOk result (λ r. answer_to self.old number ≡ Some (record { entry = r.0.entry; outcome = r.0.outcome; bytes = bytes_in r.0.outcome r.2 })) }
+        ensures window { IfOk result (λ r. window_at self.old tag ≡ Some r.2) }
+        ensures fit { IfOk result (λ r. IsFit r.2) }
+        ensures pieces { IfOk result (λ r. r.1.items ≡ pieces r.2) }
+        ensures fault { Answers result (collect_refusal self.old tag number) }
+        ensures err { OnErr result (self.new ≡ self.old) }
+    {
         if let Some(fault) = self.collect_fault(tag, number) {
             return Err(fault);
         }
         let slot = self.slots[tag as usize].take().unwrap();
-        let (ended, window) = slot.answer();
+        let (ended, pieces, window) = slot.answer();
         let entry = number_at(&self.journal, ended.entry);
         self.journal.push_reserved(Event::Collect(tag));
         let reply = Reply {
@@ -40,7 +63,7 @@ impl<A: Allocator, S: SectorStore> Port<A, S> {
             entry,
             outcome: ended.outcome,
         };
-        Ok((reply, window))
+        Ok((reply, pieces, window))
     }
 
     /// Why request `number` of a tag is not collected.

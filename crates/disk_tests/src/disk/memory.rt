@@ -40,6 +40,8 @@ pub const QUIET: Link = Link {
 pub struct Memory {
     pub text: Vec<u8>,
     pub link: Link,
+    /// Whether the disk may read the text where it lies.
+    pub lends: bool,
 }
 
 impl Host for Memory {
@@ -76,6 +78,31 @@ impl Host for Memory {
         self.link.last = fis.len();
     }
 
+    fn deliver_parts(&mut self, head: &[u8; 4], payload: &[u8]) {
+        let end = self.link.offset + payload.len();
+        self.text.as_mut_slice()[self.link.offset..end].copy_from_slice(payload);
+        self.link.offset = end;
+        self.link.head = *head;
+        self.link.data = self.link.data.saturating_add(1);
+        self.link.last = payload.len().saturating_add(4);
+    }
+
+    fn at_hand(&self, len: usize) -> Option<&[u8]> {
+        if !self.lends {
+            return None;
+        }
+        let offset = self.link.offset;
+        Some(&self.text.as_slice()[offset..offset + len])
+    }
+
+    fn activate_at_hand(&mut self, fis: &[u8; 4], len: usize) {
+        self.link.offset += len;
+        self.link.data = self.link.data.saturating_add(1);
+        self.link.last = len.saturating_add(4);
+        self.link.activate = *fis;
+        self.link.activates = self.link.activates.saturating_add(1);
+    }
+
     fn activate(&mut self, fis: &[u8; 4], out: &mut [u8]) {
         let end = self.link.offset + out.len() - 4;
         out[..4].copy_from_slice(&data_head());
@@ -94,6 +121,7 @@ impl Memory {
         Ok(Memory {
             text: vec![in alloc; byte; disk.sectors() as usize * 512]?,
             link: QUIET,
+            lends: false,
         })
     }
 }

@@ -58,8 +58,15 @@ const DEVICE: u8 = 0x40;
 
 const DEVICE_WITH_FUA: u8 = 0xC0;
 
-/// Moves the sectors from LBA 1 on by a command with this device byte, and compares all that was sent.
-fn moves(rt: &impl Abort, alloc: Global, write: bool, device: u8, size: Size) -> Result<(), Fail>
+/// Moves the sectors from LBA 1 on by a command with this device byte, and compares all that was sent. The host lends its text, or gives copies.
+fn moves(
+    rt: &impl Abort,
+    alloc: Global,
+    lends: bool,
+    write: bool,
+    device: u8,
+    size: Size,
+) -> Result<(), Fail>
     requires { size.0 ≤ 65536 }
 {
     let (sectors, features, ..) = size;
@@ -67,6 +74,7 @@ fn moves(rt: &impl Abort, alloc: Global, write: bool, device: u8, size: Size) ->
     let mut rig = Rig::new(alloc, sectors + 2, 32, 0x22, 0x33)?;
     let mut fis = queued(command, 31, 1, features);
     fis[7] = device;
+    rig.host.lends = lends;
     rig.goes(rt, sectors, (Take(fis, ACCEPTED), 1 << 31, false));
     rig.goes(rt, sectors, (Serve(31, Ok(())), 0, false));
     equal(rt, sectors, &rig.host.link, &sent(size, write));
@@ -92,8 +100,10 @@ fn moves(rt: &impl Abort, alloc: Global, write: bool, device: u8, size: Size) ->
 fn data_move_in_pieces_of_8192_bytes(rt: HostRuntime) -> Result<(), Fail> {
     for size in SIZES {
         assert!(rt; size.0 <= 65_536);
-        moves(&rt, rt.alloc(), false, DEVICE, size)?;
-        moves(&rt, rt.alloc(), true, DEVICE, size)?;
+        for lends in [false, true] {
+            moves(&rt, rt.alloc(), lends, false, DEVICE, size)?;
+            moves(&rt, rt.alloc(), lends, true, DEVICE, size)?;
+        }
     }
     Ok(())
 }
@@ -103,8 +113,8 @@ fn data_move_in_pieces_of_8192_bytes(rt: HostRuntime) -> Result<(), Fail> {
 fn fua_moves_the_same_data(rt: HostRuntime) -> Result<(), Fail> {
     for size in SIZES {
         if size.0 <= 40 {
-            moves(&rt, rt.alloc(), false, DEVICE_WITH_FUA, size)?;
-            moves(&rt, rt.alloc(), true, DEVICE_WITH_FUA, size)?;
+            moves(&rt, rt.alloc(), true, false, DEVICE_WITH_FUA, size)?;
+            moves(&rt, rt.alloc(), true, true, DEVICE_WITH_FUA, size)?;
         }
     }
     Ok(())

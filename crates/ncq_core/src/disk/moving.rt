@@ -1,5 +1,6 @@
 //! Data FISes between the disk and a host (Serial ATA, "Data FIS" and "DMA Activate FIS"). Each has 8,192 bytes of
-//! payload, the last one the rest. Every byte is copied once here: into a Data FIS, or out of one.
+//! payload, the last one the rest. A payload that the store or the host has at hand is taken from there; any other is copied into the
+//! room of a Data FIS first.
 
 ghost use Rattle.std.specs.Prelude.{◌≡◌, ◌+◌, ◌-◌, ◌*◌, ◌/◌, ◌%◌, ◌≤◌, ◌++◌, ◌∷◌, [], true, false, length, take, drop, slice_range};
 ghost use Rattle.std.specs.List.{replace_range};
@@ -32,7 +33,7 @@ fn put_data<S: SectorStore>(fis: &mut [u8], store: &S, lba: u64)
     store.read(lba, payload);
 }
 
-/// Sends so many bytes of sectors from an LBA on in one Data FIS, which is put together in `room`.
+/// Sends so many bytes of sectors from an LBA on in one Data FIS. It is put together in `room` where the store doesn't have them at hand.
 fn deliver_one<H: Host, S: SectorStore>(
     host: &mut H,
     room: &mut [u8; DATA_FIS],
@@ -51,12 +52,17 @@ fn deliver_one<H: Host, S: SectorStore>(
     ensures saw { H.saw host.old (Data bytes ∷ []) host.new }
     ensures others { H.keeps host.old host.new }
 {
+    if let Some(payload) = store.at_hand(lba, bytes) {
+        host.deliver_parts(&data_head(), payload);
+        return;
+    }
     let fis = &mut room[..4 + bytes];
     put_data(fis, store, lba);
     host.deliver(fis);
 }
 
-/// Writes so many bytes over sectors from an LBA on by one Data FIS, for which a DMA Activate asks and which comes into `room`.
+/// Writes so many bytes over sectors from an LBA on by one Data FIS, for which a DMA Activate asks. It comes into `room` where the host
+/// doesn't have its payload at hand.
 fn fetch_one<H: Host, S: SectorStore>(
     host: &mut H,
     room: &mut [u8; DATA_FIS],
@@ -81,6 +87,11 @@ fn fetch_one<H: Host, S: SectorStore>(
     ensures saw { H.saw host.old (Activate bytes ∷ []) host.new }
     ensures others { H.keeps host.old host.new }
 {
+    if let Some(payload) = host.at_hand(bytes) {
+        store.write(lba, payload);
+        host.activate_at_hand(&activate(), bytes);
+        return;
+    }
     let fis = &mut room[..4 + bytes];
     host.activate(&activate(), fis);
     store.write(lba, &fis[4..]);

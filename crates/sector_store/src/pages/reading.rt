@@ -8,7 +8,9 @@ ghost use Rattle.sector_store.specs.Slots.{layers_of, slot_at};
 ghost use Rattle.sector_store.specs.Shown.{AreRead, sector_now, sector_kept};
 
 use crate::base::Base;
+use crate::page::PAGE;
 use crate::pages::Pages;
+use crate::run::run_at;
 use ncq_journal::read_sectors;
 use std::alloc::Allocator;
 
@@ -89,6 +91,23 @@ impl<B: Base, A: Allocator> Pages<B, A> {
         let count = out.len() / 512;
         for k in 0..count {
             self.read_sector(lba + k as u64, &mut out[k * 512..k * 512 + 512]);
+        }
+    }
+
+    /// So many bytes of sectors from `lba` on as they are now, where one page in memory has them all.
+    pub(super) fn run_in_page(&self, lba: u64, len: usize) -> Option<&[u8]>
+        requires whole { len ≡ 512 * (len / 512) }
+        requires inside { lba + len / 512 ≤ self.now.sectors }
+        ensures sectors { IfSome (option_copied result) (AreRead (sector_now (B.sector self.now.base) (slot_at self.now.table)) lba) }
+        ensures len { IfSome (option_copied result) (λ bytes. length bytes ≡ len) }
+    {
+        let first = lba % 8;
+        if len > PAGE - first as usize * 512 {
+            return None;
+        }
+        match self.page((lba / 8) as u32) {
+            Some(page) => Some(run_at(page, first, len)),
+            None => None,
         }
     }
 

@@ -7,8 +7,8 @@ use Rattle.ncq_journal.specs.Numbering.{number_of}
 use Rattle.ahci_port.specs.Slots.{answer_in, window_in}
 use Rattle.ahci_port.proofs.CollectingLemmas.{Collected, collecting, answer_given, ended_there, ended_within}
 use Rattle.ahci_port.proofs.IssuingLemmas.{keeps_collect}
-use Rattle.ahci_port.proofs.port.Port.collect.Goals as goal
-use Rattle.ahci_port.proofs.port.Port.collect.Goals.{After-answer-window}
+use Rattle.ahci_port.proofs.port.Port.collect_with_pieces.Goals as goal
+use Rattle.ahci_port.proofs.port.Port.collect_with_pieces.Goals.{After-answer-pieces}
 
 pub index_mut-requires : goal.index_mut-requires
 index_mut-requires g c =
@@ -26,30 +26,30 @@ push_reserved-requires g c =
     let f = collecting _ _ _ _ _ _ _ c.args.tag c.args.number c.args.self.now c.self.invariant (ap (λ p. p.past) c.self.view_is) (sym c.collect_fault.ensures ∙ c.in_default.is) in
     f.room
 
-pub answer-window-requires : goal.answer-window-requires
-answer-window-requires g c =
+pub answer-pieces-requires : goal.answer-pieces-requires
+answer-pieces-requires g c =
     let f = collecting _ _ _ _ _ _ _ c.args.tag c.args.number c.args.self.now c.self.invariant (ap (λ p. p.past) c.self.view_is) (sym c.collect_fault.ensures ∙ c.in_default.is) in
     let here = get_or_read _ _ _ f.below c.index_mut.ensures.value None in
     let same : f.slot ≡ c.unwrap-slot.result = same_Some _ _ (sym f.here ∙ sym here ∙ sym c.take.ensures.value ∙ c.unwrap-slot.ensures) in
     ended_there c.unwrap-slot.result (ap (λ s. is_some (answer_in s)) (sym same) ∙ f.answered)
 
 -- what holds once the slot is taken: the request's slot
-taken : (g : _) (c : After-answer-window g) → Collected c.self.inside.disk.starting c.self.inside.journal.past c.self.inside.slots.items c.self.inside.journal.room c.args.self.now.first c.args.tag c.args.number
+taken : (g : _) (c : After-answer-pieces g) → Collected c.self.inside.disk.starting c.self.inside.journal.past c.self.inside.slots.items c.self.inside.journal.room c.args.self.now.first c.args.tag c.args.number
 taken g c = collecting _ _ _ _ _ _ _ c.args.tag c.args.number c.args.self.now c.self.invariant (ap (λ p. p.past) c.self.view_is) (sym c.collect_fault.ensures ∙ c.in_default.is)
 
-same : (g : _) (c : After-answer-window g) → (taken g c).slot ≡ c.unwrap-slot.result
+same : (g : _) (c : After-answer-pieces g) → (taken g c).slot ≡ c.unwrap-slot.result
 same g c =
     let f = taken g c in
     same_Some _ _ (sym f.here ∙ sym (get_or_read _ _ _ f.below c.index_mut.ensures.value None) ∙ sym c.take.ensures.value ∙ c.unwrap-slot.ensures)
 
-ended : (g : _) (c : After-answer-window g) → (taken g c).slot.ended ≡ Some c.answer-window.result.0
-ended g c = ap (λ s. s.ended) (same g c) ∙ c.answer-window.ensures.ended
+ended : (g : _) (c : After-answer-pieces g) → (taken g c).slot.ended ≡ Some c.answer-pieces.result.0
+ended g c = ap (λ s. s.ended) (same g c) ∙ c.answer-pieces.ensures.ended
 
 pub number_at-entry-requires : goal.number_at-entry-requires
 number_at-entry-requires g c =
-    let at = (goal.at.number_at-entry-requires g c).After-answer-window in
+    let at = (goal.at.number_at-entry-requires g c).After-answer-pieces in
     let f = taken g at in
-    ended_within c.self.inside.disk.starting c.self.inside.journal.past f.slot c.answer-window.result.0 f.answer_is (ended g at)
+    ended_within c.self.inside.disk.starting c.self.inside.journal.past f.slot c.answer-pieces.result.0 f.answer_is (ended g at)
 
 pub invariant_of-self : goal.invariant_of-self
 invariant_of-self g c =
@@ -72,13 +72,13 @@ returns-clause-ok g c =
 
 pub returns-clause-reply : goal.returns-clause-reply
 returns-clause-reply g c =
-    let at = (goal.at.returns-clause-reply g c).After-answer-window in
+    let at = (goal.at.returns-clause-reply g c).After-answer-pieces in
     let i = c.self.inside in
     let f = taken g at in
     let first = ap (λ p. p.first) (sym c.self.view_is) in
     rw (← c.self.view_is)
-    (answer_given i.disk.starting i.journal.past i.journal.first c.args.number c.number_at-entry.result f.slot c.answer-window.result.0 c.answer-window.result.1
-    (f.number_is ∙ ap (λ n. number_of n f.slot.place) first) f.answer_is (ended g at) (c.answer-window.ensures.window ∙ ap (λ s. s.window) (sym (same g at))) c.number_at-entry.ensures)
+    (answer_given i.disk.starting i.journal.past i.journal.first c.args.number c.number_at-entry.result f.slot c.answer-pieces.result.0 c.answer-pieces.result.2
+    (f.number_is ∙ ap (λ n. number_of n f.slot.place) first) f.answer_is (ended g at) (c.answer-pieces.ensures.window ∙ ap (λ s. s.window) (sym (same g at))) c.number_at-entry.ensures)
 
 pub returns-clause-window : goal.returns-clause-window
 returns-clause-window g c =
@@ -87,11 +87,11 @@ returns-clause-window g c =
     let here = get_or_read _ _ _ f.below c.index_mut.ensures.value None in
     let same : f.slot ≡ c.unwrap-slot.result = same_Some _ _ (sym f.here ∙ sym here ∙ sym c.take.ensures.value ∙ c.unwrap-slot.ensures) in
     rw (← c.self.view_is)
-    (get_or-map window_in i.slots.items c.args.tag None ∙ ap window_in f.here ∙ ap (λ s. Some s.window) same ∙ ap (λ w. Some w) (sym c.answer-window.ensures.window))
+    (get_or-map window_in i.slots.items c.args.tag None ∙ ap window_in f.here ∙ ap (λ s. Some s.window) same ∙ ap (λ w. Some w) (sym c.answer-pieces.ensures.window))
 
 pub returns-clause-fit : goal.returns-clause-fit
 returns-clause-fit g c =
     let f = collecting _ _ _ _ _ _ _ c.args.tag c.args.number c.args.self.now c.self.invariant (ap (λ p. p.past) c.self.view_is) (sym c.collect_fault.ensures ∙ c.in_default.is) in
     let here = get_or_read _ _ _ f.below c.index_mut.ensures.value None in
     let same : f.slot ≡ c.unwrap-slot.result = same_Some _ _ (sym f.here ∙ sym here ∙ sym c.take.ensures.value ∙ c.unwrap-slot.ensures) in
-    subst IsFit (ap (λ s. s.window) same ∙ sym c.answer-window.ensures.window) f.fit
+    subst IsFit (ap (λ s. s.window) same ∙ sym c.answer-pieces.ensures.window) f.fit
