@@ -1,10 +1,19 @@
-//! Why each call of a port is refused, an enum a call, in the order of its tests.
+//! Why each call of a port is refused, an enum a call, in the order of its tests. As an error a fault shows its refusal's text.
+
+ghost use Rattle.std.specs.Prelude.{◌≡◌};
+ghost use Rattle.ahci_port.specs.declared.fault.IssueFault.TheVariants as issue;
+ghost use Rattle.ahci_port.specs.declared.fault.PlainFault.TheVariants as plain;
+ghost use Rattle.ahci_port.specs.declared.fault.RecoverFault.TheVariants as recover;
+ghost use Rattle.ahci_port.specs.declared.fault.ZeroFault.TheVariants as zero;
 
 use ahci_regs::RegFault;
+use port_refusal::Refusal;
 use std::alloc::AllocError;
+use thiserror::Error;
 
 /// Why a command was not issued. The cases are tested in this order.
-#[derive(Clone, Copy, Debug, PartialEq, Eq)]
+#[derive(Clone, Copy, Debug, PartialEq, Eq, Error)]
+#[error("{}", Refusal::from(*self))]
 pub enum IssueFault {
     /// A command has failed, and the port has not recovered.
     Halted,
@@ -25,10 +34,7 @@ pub enum IssueFault {
 }
 
 impl From<AllocError> for IssueFault {
-    ghost use Rattle.std.specs.Prelude.{◌≡◌};
-    ghost use Rattle.ahci_port.specs.declared.fault.IssueFault.TheVariants as the-fault;
-
-    ghost from_gives = { λ _ fault. fault ≡ the-fault.OutOfMemory };
+    ghost from_gives = { λ _ fault. fault ≡ issue.OutOfMemory };
 
     fn from(_refused: AllocError) -> IssueFault {
         IssueFault::OutOfMemory
@@ -36,7 +42,8 @@ impl From<AllocError> for IssueFault {
 }
 
 /// Why a command was not submitted. The cases are tested in this order, and then those of an issue.
-#[derive(Clone, Copy, Debug, PartialEq, Eq)]
+#[derive(Clone, Copy, Debug, PartialEq, Eq, Error)]
+#[error("{}", Refusal::from(*self))]
 pub enum SubmitFault {
     /// The command has no sectors or over 65,536, or the bytes of a write aren't whole sectors.
     BadCount,
@@ -48,7 +55,8 @@ pub enum SubmitFault {
 }
 
 /// Why the device did not take a step. The cases are tested in this order.
-#[derive(Clone, Copy, Debug, PartialEq, Eq)]
+#[derive(Clone, Copy, Debug, PartialEq, Eq, Error)]
+#[error("{}", Refusal::from(*self))]
 pub enum StepFault {
     /// A command has failed, and the port has not recovered.
     Halted,
@@ -63,7 +71,8 @@ pub enum StepFault {
 }
 
 /// Why a request was not collected. The cases are tested in this order.
-#[derive(Clone, Copy, Debug, PartialEq, Eq)]
+#[derive(Clone, Copy, Debug, PartialEq, Eq, Error)]
+#[error("{}", Refusal::from(*self))]
 pub enum CollectFault {
     /// The slot is free, or its request has another number.
     Stranger,
@@ -72,7 +81,8 @@ pub enum CollectFault {
 }
 
 /// Why no port was made that goes on from an image and a number. The cases are tested in this order.
-#[derive(Clone, Copy, Debug, PartialEq, Eq)]
+#[derive(Clone, Copy, Debug, PartialEq, Eq, Error)]
+#[error("{}", Refusal::from(*self))]
 pub enum ResumeFault {
     /// The image is not 1 to 131,072 whole sectors of 512 bytes.
     BadSize,
@@ -85,7 +95,8 @@ pub enum ResumeFault {
 }
 
 /// Why the journal was not handed out. The cases are tested in this order.
-#[derive(Clone, Copy, Debug, PartialEq, Eq)]
+#[derive(Clone, Copy, Debug, PartialEq, Eq, Error)]
+#[error("{}", Refusal::from(*self))]
 pub enum TrimFault {
     /// Some slot is not free, so also where the port is halted.
     Busy,
@@ -94,14 +105,16 @@ pub enum TrimFault {
 }
 
 /// Why the port was not reset.
-#[derive(Clone, Copy, Debug, PartialEq, Eq)]
+#[derive(Clone, Copy, Debug, PartialEq, Eq, Error)]
+#[error("{}", Refusal::from(*self))]
 pub enum ResetFault {
     /// The number of the next entry is over 2^63.
     Spent,
 }
 
 /// Why the port did not recover. The cases are tested in this order.
-#[derive(Clone, Copy, Debug, PartialEq, Eq)]
+#[derive(Clone, Copy, Debug, PartialEq, Eq, Error)]
+#[error("{}", Refusal::from(*self))]
 pub enum RecoverFault {
     /// No command has failed.
     NotHalted,
@@ -110,10 +123,7 @@ pub enum RecoverFault {
 }
 
 impl From<AllocError> for RecoverFault {
-    ghost use Rattle.std.specs.Prelude.{◌≡◌};
-    ghost use Rattle.ahci_port.specs.declared.fault.RecoverFault.TheVariants as the-fault;
-
-    ghost from_gives = { λ _ fault. fault ≡ the-fault.OutOfMemory };
+    ghost from_gives = { λ _ fault. fault ≡ recover.OutOfMemory };
 
     fn from(_refused: AllocError) -> RecoverFault {
         RecoverFault::OutOfMemory
@@ -121,7 +131,8 @@ impl From<AllocError> for RecoverFault {
 }
 
 /// Why a held command was not issued again. The cases are tested in this order.
-#[derive(Clone, Copy, Debug, PartialEq, Eq)]
+#[derive(Clone, Copy, Debug, PartialEq, Eq, Error)]
+#[error("{}", Refusal::from(*self))]
 pub enum ReissueFault {
     /// A command has failed, and the port has not recovered.
     Halted,
@@ -130,7 +141,8 @@ pub enum ReissueFault {
 }
 
 /// Why a command that is not queued was not sent. The cases are tested in this order.
-#[derive(Clone, Copy, Debug, PartialEq, Eq)]
+#[derive(Clone, Copy, Debug, PartialEq, Eq, Error)]
+#[error("{}", Refusal::from(*self))]
 pub enum PlainFault {
     /// A command has failed, and the port has not recovered.
     Halted,
@@ -141,10 +153,7 @@ pub enum PlainFault {
 }
 
 impl From<AllocError> for PlainFault {
-    ghost use Rattle.std.specs.Prelude.{◌≡◌};
-    ghost use Rattle.ahci_port.specs.declared.fault.PlainFault.TheVariants as the-fault;
-
-    ghost from_gives = { λ _ fault. fault ≡ the-fault.OutOfMemory };
+    ghost from_gives = { λ _ fault. fault ≡ plain.OutOfMemory };
 
     fn from(_refused: AllocError) -> PlainFault {
         PlainFault::OutOfMemory
@@ -152,7 +161,8 @@ impl From<AllocError> for PlainFault {
 }
 
 /// Why sectors were not made zeros. The cases are tested in this order.
-#[derive(Clone, Copy, Debug, PartialEq, Eq)]
+#[derive(Clone, Copy, Debug, PartialEq, Eq, Error)]
+#[error("{}", Refusal::from(*self))]
 pub enum ZeroFault {
     /// A command has failed, and the port has not recovered.
     Halted,
@@ -167,10 +177,7 @@ pub enum ZeroFault {
 }
 
 impl From<AllocError> for ZeroFault {
-    ghost use Rattle.std.specs.Prelude.{◌≡◌};
-    ghost use Rattle.ahci_port.specs.declared.fault.ZeroFault.TheVariants as the-fault;
-
-    ghost from_gives = { λ _ fault. fault ≡ the-fault.OutOfMemory };
+    ghost from_gives = { λ _ fault. fault ≡ zero.OutOfMemory };
 
     fn from(_refused: AllocError) -> ZeroFault {
         ZeroFault::OutOfMemory
@@ -178,7 +185,8 @@ impl From<AllocError> for ZeroFault {
 }
 
 /// Why a write to a register was not taken. Of each register the cases are tested in this order.
-#[derive(Clone, Copy, Debug, PartialEq, Eq)]
+#[derive(Clone, Copy, Debug, PartialEq, Eq, Error)]
+#[error("{}", Refusal::from(*self))]
 pub enum WriteFault {
     /// By the register table: there is no register at the offset, or FRE would be cleared, or PxCLB or PxFB moved.
     Register(RegFault),

@@ -1,4 +1,4 @@
-//! The faults of the port's calls as refusals, whose text they show as errors.
+//! The faults of the port's calls as refusals: each by its own name, or as the fault that it wraps.
 
 ghost use Rattle.std.specs.Prelude.{◌≡◌};
 ghost use Rattle.ahci_port.specs.Refusals.{of_collect, of_issue, of_plain, of_recover, of_reissue, of_reset, of_resume, of_step, of_submit, of_trim, of_write, of_zero};
@@ -8,34 +8,26 @@ use crate::fault::{
     StepFault, SubmitFault, TrimFault, WriteFault, ZeroFault,
 };
 use port_refusal::Refusal;
-use std::error::Error;
-use std::fmt;
-use std::fmt::{Display, Formatter, Write};
+
+/// Matches a fault to the refusal with the same name.
+macro_rules! same_name {
+    ($fault:ident, $faults:ident: $($name:ident),*) => {
+        match $fault {
+            $($faults::$name => Refusal::$name,)*
+        }
+    };
+}
 
 impl From<IssueFault> for Refusal {
     ghost from_gives = { λ fault refusal. refusal ≡ of_issue fault };
 
     fn from(fault: IssueFault) -> Refusal {
-        match fault {
-            IssueFault::Halted => Refusal::Halted,
-            IssueFault::NoSuchTag => Refusal::NoSuchTag,
-            IssueFault::SlotOwned => Refusal::SlotOwned,
-            IssueFault::BadHeader => Refusal::BadHeader,
-            IssueFault::BadCommand => Refusal::BadCommand,
-            IssueFault::WrongTag => Refusal::WrongTag,
-            IssueFault::BadList => Refusal::BadList,
-            IssueFault::OutOfMemory => Refusal::OutOfMemory,
-        }
+        same_name!(
+            fault,
+            IssueFault: Halted, NoSuchTag, SlotOwned, BadHeader, BadCommand, WrongTag, BadList, OutOfMemory
+        )
     }
 }
-
-impl Display for IssueFault {
-    fn fmt<W: Write>(&self, f: &mut Formatter<W>) -> Result<(), fmt::Error> {
-        Refusal::from(*self).fmt(f)
-    }
-}
-
-impl Error for IssueFault {}
 
 impl From<SubmitFault> for Refusal {
     ghost from_gives = { λ fault refusal. refusal ≡ of_submit fault };
@@ -49,192 +41,77 @@ impl From<SubmitFault> for Refusal {
     }
 }
 
-impl Display for SubmitFault {
-    fn fmt<W: Write>(&self, f: &mut Formatter<W>) -> Result<(), fmt::Error> {
-        Refusal::from(*self).fmt(f)
-    }
-}
-
-impl Error for SubmitFault {}
-
 impl From<StepFault> for Refusal {
     ghost from_gives = { λ fault refusal. refusal ≡ of_step fault };
 
     fn from(fault: StepFault) -> Refusal {
-        match fault {
-            StepFault::Halted => Refusal::Halted,
-            StepFault::NotIssued => Refusal::NotIssued,
-            StepFault::NotAccepted => Refusal::NotAccepted,
-            StepFault::OutsideCommand => Refusal::OutsideCommand,
-            StepFault::BadTags => Refusal::BadTags,
-        }
+        same_name!(fault, StepFault: Halted, NotIssued, NotAccepted, OutsideCommand, BadTags)
     }
 }
-
-impl Display for StepFault {
-    fn fmt<W: Write>(&self, f: &mut Formatter<W>) -> Result<(), fmt::Error> {
-        Refusal::from(*self).fmt(f)
-    }
-}
-
-impl Error for StepFault {}
 
 impl From<CollectFault> for Refusal {
     ghost from_gives = { λ fault refusal. refusal ≡ of_collect fault };
 
     fn from(fault: CollectFault) -> Refusal {
-        match fault {
-            CollectFault::Stranger => Refusal::Stranger,
-            CollectFault::NotYet => Refusal::NotYet,
-        }
+        same_name!(fault, CollectFault: Stranger, NotYet)
     }
 }
-
-impl Display for CollectFault {
-    fn fmt<W: Write>(&self, f: &mut Formatter<W>) -> Result<(), fmt::Error> {
-        Refusal::from(*self).fmt(f)
-    }
-}
-
-impl Error for CollectFault {}
 
 impl From<ResumeFault> for Refusal {
     ghost from_gives = { λ fault refusal. refusal ≡ of_resume fault };
 
     fn from(fault: ResumeFault) -> Refusal {
-        match fault {
-            ResumeFault::BadSize => Refusal::BadSize,
-            ResumeFault::BadDepth => Refusal::BadDepth,
-            ResumeFault::BadFirst => Refusal::BadFirst,
-            ResumeFault::OutOfMemory => Refusal::OutOfMemory,
-        }
+        same_name!(fault, ResumeFault: BadSize, BadDepth, BadFirst, OutOfMemory)
     }
 }
-
-impl Display for ResumeFault {
-    fn fmt<W: Write>(&self, f: &mut Formatter<W>) -> Result<(), fmt::Error> {
-        Refusal::from(*self).fmt(f)
-    }
-}
-
-impl Error for ResumeFault {}
 
 impl From<TrimFault> for Refusal {
     ghost from_gives = { λ fault refusal. refusal ≡ of_trim fault };
 
     fn from(fault: TrimFault) -> Refusal {
-        match fault {
-            TrimFault::Busy => Refusal::Busy,
-            TrimFault::Spent => Refusal::Spent,
-        }
+        same_name!(fault, TrimFault: Busy, Spent)
     }
 }
-
-impl Display for TrimFault {
-    fn fmt<W: Write>(&self, f: &mut Formatter<W>) -> Result<(), fmt::Error> {
-        Refusal::from(*self).fmt(f)
-    }
-}
-
-impl Error for TrimFault {}
 
 impl From<ResetFault> for Refusal {
     ghost from_gives = { λ fault refusal. refusal ≡ of_reset fault };
 
     fn from(fault: ResetFault) -> Refusal {
-        match fault {
-            ResetFault::Spent => Refusal::Spent,
-        }
+        same_name!(fault, ResetFault: Spent)
     }
 }
-
-impl Display for ResetFault {
-    fn fmt<W: Write>(&self, f: &mut Formatter<W>) -> Result<(), fmt::Error> {
-        Refusal::from(*self).fmt(f)
-    }
-}
-
-impl Error for ResetFault {}
 
 impl From<RecoverFault> for Refusal {
     ghost from_gives = { λ fault refusal. refusal ≡ of_recover fault };
 
     fn from(fault: RecoverFault) -> Refusal {
-        match fault {
-            RecoverFault::NotHalted => Refusal::NotHalted,
-            RecoverFault::OutOfMemory => Refusal::OutOfMemory,
-        }
+        same_name!(fault, RecoverFault: NotHalted, OutOfMemory)
     }
 }
-
-impl Display for RecoverFault {
-    fn fmt<W: Write>(&self, f: &mut Formatter<W>) -> Result<(), fmt::Error> {
-        Refusal::from(*self).fmt(f)
-    }
-}
-
-impl Error for RecoverFault {}
 
 impl From<ReissueFault> for Refusal {
     ghost from_gives = { λ fault refusal. refusal ≡ of_reissue fault };
 
     fn from(fault: ReissueFault) -> Refusal {
-        match fault {
-            ReissueFault::Halted => Refusal::Halted,
-            ReissueFault::NotHeld => Refusal::NotHeld,
-        }
+        same_name!(fault, ReissueFault: Halted, NotHeld)
     }
 }
-
-impl Display for ReissueFault {
-    fn fmt<W: Write>(&self, f: &mut Formatter<W>) -> Result<(), fmt::Error> {
-        Refusal::from(*self).fmt(f)
-    }
-}
-
-impl Error for ReissueFault {}
 
 impl From<PlainFault> for Refusal {
     ghost from_gives = { λ fault refusal. refusal ≡ of_plain fault };
 
     fn from(fault: PlainFault) -> Refusal {
-        match fault {
-            PlainFault::Halted => Refusal::Halted,
-            PlainFault::QueueBusy => Refusal::QueueBusy,
-            PlainFault::OutOfMemory => Refusal::OutOfMemory,
-        }
+        same_name!(fault, PlainFault: Halted, QueueBusy, OutOfMemory)
     }
 }
-
-impl Display for PlainFault {
-    fn fmt<W: Write>(&self, f: &mut Formatter<W>) -> Result<(), fmt::Error> {
-        Refusal::from(*self).fmt(f)
-    }
-}
-
-impl Error for PlainFault {}
 
 impl From<ZeroFault> for Refusal {
     ghost from_gives = { λ fault refusal. refusal ≡ of_zero fault };
 
     fn from(fault: ZeroFault) -> Refusal {
-        match fault {
-            ZeroFault::Halted => Refusal::Halted,
-            ZeroFault::QueueBusy => Refusal::QueueBusy,
-            ZeroFault::SlotOwned => Refusal::SlotOwned,
-            ZeroFault::NoSuchSector => Refusal::NoSuchSector,
-            ZeroFault::OutOfMemory => Refusal::OutOfMemory,
-        }
+        same_name!(fault, ZeroFault: Halted, QueueBusy, SlotOwned, NoSuchSector, OutOfMemory)
     }
 }
-
-impl Display for ZeroFault {
-    fn fmt<W: Write>(&self, f: &mut Formatter<W>) -> Result<(), fmt::Error> {
-        Refusal::from(*self).fmt(f)
-    }
-}
-
-impl Error for ZeroFault {}
 
 impl From<WriteFault> for Refusal {
     ghost from_gives = { λ fault refusal. refusal ≡ of_write fault };
@@ -250,11 +127,3 @@ impl From<WriteFault> for Refusal {
         }
     }
 }
-
-impl Display for WriteFault {
-    fn fmt<W: Write>(&self, f: &mut Formatter<W>) -> Result<(), fmt::Error> {
-        Refusal::from(*self).fmt(f)
-    }
-}
-
-impl Error for WriteFault {}

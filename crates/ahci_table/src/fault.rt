@@ -2,9 +2,6 @@
 
 use port_refusal::Refusal;
 use std::alloc::AllocError;
-use std::error::Error as StdError;
-use std::fmt;
-use std::fmt::{Display, Formatter, Write};
 use thiserror::Error;
 
 /// Why no window is built. The cases are tested in this order.
@@ -51,7 +48,8 @@ impl From<AllocError> for BuildFault {
 }
 
 /// The first rule that a window breaks. The rules are tested in this order.
-#[derive(Clone, Copy, Debug, PartialEq, Eq)]
+#[derive(Clone, Copy, Debug, PartialEq, Eq, Error)]
+#[error("{}", Refusal::from(*self))]
 pub enum TableFault {
     /// The command header isn't that of a queued command with 1 to 32 entries whose table is in this window, or the
     /// window is shorter than its table or longer than 67,108,864 bytes.
@@ -80,11 +78,3 @@ impl From<TableFault> for Refusal {
         }
     }
 }
-
-impl Display for TableFault {
-    fn fmt<W: Write>(&self, f: &mut Formatter<W>) -> Result<(), fmt::Error> {
-        Refusal::from(*self).fmt(f)
-    }
-}
-
-impl StdError for TableFault {}
