@@ -57,6 +57,13 @@ class Trusted(unittest.TestCase):
         with self.assertRaisesRegex(Unknown, "no definition of specs/ has that name"):
             self.lines("least")
 
+    def test_a_definition_that_no_source_leads_to_is_of_proofs_alone(self) -> None:
+        def left(*texts: str) -> List[str]:
+            return [f"{it.path}: {it.first}" for it in self.specs.of_proofs_alone(texts)]
+
+        self.assertEqual(["crates/low/specs/Numbers.antt: 8", "crates/low/specs/Numbers.antt: 11", "crates/high/specs/Sums.antt: 13"], sorted(left("{ sum kind 1 }"), reverse=True))
+        self.assertEqual([], left("requires { sum k n }", "never, sign"))
+
     def test_they_are_counted_and_a_row_has_the_counts(self) -> None:
         self.assertEqual("4 definitions, 13 lines in 2 files", counted(self.specs.closure("sum")))
         page = ["# Proofs", TABLE, "|---|---|---|---|---|", "| `sum` | 1 | 2 | 3 | a sum | of two |", "", "| `sign` | 1 | 1 | 1 | no row |"]

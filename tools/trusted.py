@@ -9,11 +9,13 @@ import glob
 import os
 import re
 from dataclasses import dataclass, field
-from typing import Dict, Iterator, List, Optional, Set, Tuple
+from typing import Dict, Iterable, Iterator, List, Optional, Set, Tuple
 
 HEADS = re.compile(r"(?:abbrev|unfoldable|pub|record|data|opaque|instance)\b")
 WORDS = {"abbrev", "unfoldable", "pub", "record", "data", "opaque", "instance"}
 NAME = re.compile(r"[^\W\d][\w']*")
+WORD = re.compile(r"[^\s(){}\[\],;.:]+")
+OPERATOR = "◌"  # such a name is written apart, or not at all, as in a `do`
 DATA = re.compile(r"(?m)^(?:pub )?data ")
 CONSTRUCTOR = re.compile(r"(?m)^  (\w+) :")
 DECLARED = re.compile(r"(?:pub(?:\([a-z]+\))? )?(?:struct|enum) (\w+)")
@@ -172,6 +174,26 @@ class Specs:
                 yield it.brought[name]
             elif name in it.renamed:
                 yield it.renamed[name], name
+
+    def of_proofs_alone(self, texts: Iterable[str]) -> List[Definition]:
+        """The definitions to which no word of these texts leads, which are those of src/: proofs alone can name them. Names are compared and not their modules."""
+        named: Dict[str, List[Definition]] = {}
+        other_names: Dict[str, Set[str]] = {}
+        for it in self.modules.values():
+            for alias, (_, name) in it.brought.items():
+                other_names.setdefault(alias, set()).add(name)
+            for name, own in it.definitions.items():
+                named.setdefault(name, []).append(own)
+            for name, whole in it.constructors.items():
+                named.setdefault(name, []).append(it.definitions[whole])
+        waiting, seen = [word for text in texts for word in WORD.findall(text)], set()  # type: List[str], Set[str]
+        while waiting:
+            word = waiting.pop()
+            if word not in seen:
+                seen.add(word)
+                waiting += [name for own in named.get(word, []) for name in WORD.findall(own.text)]
+                waiting += other_names.get(word, ())
+        return [own for it in self.modules.values() for name, own in it.definitions.items() if name not in seen and OPERATOR not in name]
 
     def closure(self, name: str) -> List[Definition]:
         """A definition and those that it rests on, by file and line."""

@@ -6,7 +6,7 @@ use Rattle.std.proofs.lemmas.Bool.{and_from, and_parts, eqb-true}
 use Rattle.ahci_draw.specs.Grid.{across, down, grid_text}
 use Rattle.ahci_draw.specs.Lanes.{cells_in, device_text, lane_at, lane_text, lanes_text, name_shape}
 use Rattle.ahci_draw.specs.Lines.{device_place, front_to, is_asked, label_of, lane_place, lines_from, sign_place, title_of}
-use Rattle.ahci_draw.specs.Markup.{Text, at, is_plain, is_sheet_byte}
+use Rattle.ahci_draw.specs.Markup.{Text, at, is_plain}
 use Rattle.ahci_draw.specs.Row.{row_at, row_left, row_of, row_text, row_top, rows_in, rows_text}
 use Rattle.ahci_draw.specs.Signs.{column_head, column_sign, head_at, heads_text, label_at, label_shape, rule_at, rule_shape, sign_at, sign_shape, signs_text}
 use Rattle.ahci_draw.specs.Strip.{bar_shape, begins, colour_of, count_foot, left_of, level_shape, middle_of, run_at, run_length, run_text, runs_text}
@@ -255,6 +255,10 @@ split_case : (b : Bool) (x : ℕ) (parts : List (List ℕ)) → (b ≡ false →
     → list_all (list_all is_plain) (cond b ([] ∷ parts) (onto_first x parts)) ≡ true
 split_case true x parts plain h = and_from _ _ refl h
 split_case false x parts plain h = onto_plain x parts (plain refl) h
+
+-- a byte of a sheet: its lines are plain
+abbrev pub is_sheet_byte : ℕ → Bool
+is_sheet_byte byte = is_plain byte || (byte == 10)
 
 split_plain : (sheet : List ℕ) → list_all is_sheet_byte sheet ≡ true → list_all (list_all is_plain) (slice_split (λ b. b == 10) sheet) ≡ true
 split_plain [] h = refl

@@ -22,7 +22,7 @@ use Rattle.ahci_draw.specs.Drawn.{IsSheet, IsSheetTo, picture_lines}
 use Rattle.ahci_draw.specs.Entries.{entries_text, line_of, moved_by}
 use Rattle.ahci_draw.specs.Line.{cell, cell_at, cells, entry_line, lane_of, sign_of}
 use Rattle.ahci_draw.specs.Lines.{lines_from}
-use Rattle.ahci_draw.specs.Markup.{IsClosed, is_plain, is_sheet_byte}
+use Rattle.ahci_draw.specs.Markup.{IsClosed, is_plain}
 use Rattle.ahci_draw.specs.Mark.{mark_of}
 use Rattle.ahci_draw.specs.Sheet.{added_between, sheet_text}
 use Rattle.ahci_draw.specs.Tags.{in_device, moved, unused}
@@ -30,7 +30,7 @@ use Rattle.ahci_draw.specs.Text.{letter, numbered}
 use Rattle.ahci_draw.specs.Words.{entry_words, failure_words, issue_words, title_text, zero_words}
 use Rattle.ahci_draw.specs.declared.tag_state.TagState.{TagState}
 use Rattle.ahci_draw.proofs.MarkupLemmas.{plain_append, plain_decimal, plain_hex}
-use Rattle.ahci_draw.proofs.ClosedLemmas.{Plain, plain_lines, plain_numbered}
+use Rattle.ahci_draw.proofs.ClosedLemmas.{Plain, is_sheet_byte, plain_lines, plain_numbered}
 use Rattle.ahci_draw.proofs.PictureLemmas.{closed_picture}
 
 -- ---- words

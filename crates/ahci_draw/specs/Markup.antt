@@ -6,10 +6,6 @@ use Rattle.std.specs.Prelude.{◌≡◌, ℕ, ◌==◌, nat_le, if◌then◌else
 abbrev pub is_plain : ℕ → Bool
 is_plain byte = nat_le 32 byte && (nat_le byte 126 && (not (byte == 34) && (not (byte == 38) && (not (byte == 39) && (not (byte == 60) && not (byte == 62))))))
 
--- a byte of a sheet: its lines are plain
-abbrev pub is_sheet_byte : ℕ → Bool
-is_sheet_byte byte = is_plain byte || (byte == 10)
-
 -- a byte of a name: a letter, or a dash
 abbrev pub is_name : ℕ → Bool
 is_name byte = (nat_le 97 byte && nat_le byte 122) || ((nat_le 65 byte && nat_le byte 90) || (byte == 45))

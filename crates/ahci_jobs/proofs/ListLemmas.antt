@@ -4,13 +4,13 @@ use Rattle.std.proofs.KnownBytes.{Consumes-nil}
 use Rattle.std.specs.Io.KnownBytes.{Consumes, IsAtEnd}
 use Rattle.ahci_script.specs.Jobs.{job_line_of}
 use Rattle.streams.specs.Reading as reading
-use Rattle.streams.specs.Reading.{Comes, MayEnd, ReadsAll, ReadsAs, Step, StopsReading, Taken, TakenFirst, last_by, last_of}
+use Rattle.streams.specs.Reading.{Comes, MayEnd, ReadsAll, ReadsAs, Step, StopsReading, Taken, TakenFirst, fault_or, last_by, last_of}
 use Rattle.streams.specs.Unread.{Begins, found_of, too_long, unfinished, whole, with_feeds}
 use Rattle.streams.specs.declared.stopped.Stopped.{Stopped}
 use Rattle.streams.specs.declared.stopped.Stopped.TheVariants as stopped
 use Rattle.ncq_journal.specs.Work.{Work}
 use Rattle.streams.specs.Ends.{ReadSoFar}
-use Rattle.ahci_jobs.specs.Faults.{RunReads, list_fault_of}
+use Rattle.ahci_jobs.specs.Faults.{RunReads}
 use Rattle.ahci_jobs.specs.JobList.{AreGood, IsBadNext, IsFaulty, IsListFault, IsListed, ListedFirst, Refuses, Takes, asked_in, commands_of, no_line, one_more}
 use Rattle.ahci_jobs.specs.declared.jobs_fault.JobsFault.{JobsFault}
 use Rattle.ahci_jobs.specs.declared.jobs_fault.JobsFault.TheVariants.{Line, Job, Read, Write, Unsettled, Lost, OutOfMemory}
@@ -106,6 +106,10 @@ told _ r s h = absurd h.holds
 -- no memory at the start
 pub nothing_listed : (r : Known) → IsListFault r r OutOfMemory
 nothing_listed r = record { lines = []; rest = []; remaining = r; good = no_line; consumed = Consumes-nil r; holds = refl }
+
+-- the fault where the reading stopped
+abbrev pub list_fault_of : Stopped JobsFault → JobsFault
+list_fault_of stopped = fault_or Read OutOfMemory stopped
 
 -- how a fault ends a list
 pub list_fault : {S : Type 0} (f : S → List Work) (stop : Stopped JobsFault) (r s : Known) (a b : S) → f a ≡ [] → StopsReading (Goes f) (Fails f) r s a b stop

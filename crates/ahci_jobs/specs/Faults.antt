@@ -2,14 +2,8 @@
 use Rattle.std.specs.Prelude.{◌≡◌}
 use Rattle.streams.specs.Ends.{ReadSoFar, WrittenSoFar, with_failed_write}
 use Rattle.streams.specs.Unread.{FailsReading}
-use Rattle.streams.specs.Reading.{fault_or}
-use Rattle.streams.specs.declared.stopped.Stopped.{Stopped}
 use Rattle.ahci_jobs.specs.declared.jobs_fault.JobsFault.{JobsFault}
 use Rattle.ahci_jobs.specs.declared.jobs_fault.JobsFault.TheVariants as fault
-
--- the fault where the reading stopped
-abbrev pub list_fault_of : Stopped JobsFault → JobsFault
-list_fault_of stopped = fault_or fault.Read fault.OutOfMemory stopped
 
 -- a read failed, or a byte came after the limit, and the fault is that; or none failed
 abbrev pub RunReads : ReadSoFar → ReadSoFar → JobsFault → Type 0

@@ -14,9 +14,16 @@ use Rattle.ahci_table.proofs.LawLemmas.{commutes}
 use Rattle.ahci_table.proofs.WindowLemmas.{pieces_inside}
 use Rattle.ncq_core.specs.Serving.{HasMoved, MovesFor, IsWritten}
 use Rattle.sata_fis.specs.Fields.{QueuedFields}
-use Rattle.ahci_port.specs.Moves.{MovedWindow}
 use Rattle.ahci_port.specs.Memory.{IsKept, MemoryState}
 use Rattle.ahci_port.proofs.WorkLemmas.{IsSized}
+
+-- the window once its command's data have moved: only a read changes it, and in its text alone
+pub record MovedWindow (old new : WindowState) : Type 0 where
+  pub fit : IsFit new
+  pub tag_same : new.tag ≡ old.tag
+  pub header_same : new.header ≡ old.header
+  pub cfis_same : cfis new ≡ cfis old
+  pub write_same : (queued_of old).write ≡ true → new ≡ old
 
 pub scattered_kept : (old new : WindowState) (offset : ℕ) (from : List ℕ) → IsScattered old offset from new → IsKept old new
 scattered_kept old new offset from h = record { tag_is = h.tag_is; header_is = h.header_is; len_is = h.len_is; pieces_are = h.pieces_are; cfis_is = h.cfis_is; others = h.others }

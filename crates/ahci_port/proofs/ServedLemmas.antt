@@ -20,11 +20,10 @@ use Rattle.ncq_journal.specs.Tags.{in_device}
 use Rattle.ncq_journal.proofs.OwedLemmas.{owed_moves}
 use Rattle.ahci_port.specs.Keeping.{HasSectors, Holds, Keeps}
 use Rattle.ahci_port.specs.Memory.{IsKept}
-use Rattle.ahci_port.specs.Moves.{MovedWindow}
 use Rattle.ahci_port.specs.Steps.{MovesData}
 use Rattle.ahci_port.specs.Slots.{SlotState, outstanding_in}
 use Rattle.ahci_port.specs.Standing.{last_failure}
-use Rattle.ahci_port.proofs.MemoryLemmas.{fit_sized, moved_window, kept_scattered}
+use Rattle.ahci_port.proofs.MemoryLemmas.{MovedWindow, fit_sized, moved_window, kept_scattered}
 use Rattle.ahci_port.proofs.OwningLemmas.{Owned, owned}
 use Rattle.ahci_port.proofs.ServingLemmas.{read_text}
 use Rattle.ahci_port.proofs.WorkLemmas.{op_direction, op_lba, op_read, op_sectors, op_write}

@@ -28,7 +28,8 @@ use Rattle.sata_fis.specs.Layout.{h2d_at}
 use Rattle.ahci_port.specs.Keeping.{Keeps, Holds, HasSlot, HasHeader, HasSectors, IsOf, slot_at}
 use Rattle.ahci_port.specs.Slots.{SlotState, outstanding_in, answer_in, bytes_in}
 use Rattle.ahci_port.specs.Standing.{last_failure}
-use Rattle.ahci_port.specs.Moves.{MovedWindow, served_slot, outcome_of}
+use Rattle.ahci_port.specs.Moves.{served_slot, outcome_of}
+use Rattle.ahci_port.proofs.MemoryLemmas.{MovedWindow}
 use Rattle.ahci_regs.specs.Receiving.{after_bits}
 use Rattle.ahci_port.proofs.AnswerLemmas.{apart_answers}
 use Rattle.ahci_port.proofs.FailureLemmas.{halted_same}

@@ -42,14 +42,6 @@ outcome_of false = outcome.Read
 abbrev pub served_slot : SlotState → ℕ → WindowState → SlotState
 served_slot slot entry w = record slot { phase = phase.Done; ended = Some (record { entry = entry; outcome = outcome_of slot.is_write }); window = w }
 
--- the window once its command's data have moved: only a read changes it, and in its text alone
-pub record MovedWindow (old new : WindowState) : Type 0 where
-  pub fit : IsFit new
-  pub tag_same : new.tag ≡ old.tag
-  pub header_same : new.header ≡ old.header
-  pub cfis_same : cfis new ≡ cfis old
-  pub write_same : (queued_of old).write ≡ true → new ≡ old
-
 -- the port's fault where the disk has refused to end a command
 abbrev pub step_fault_of : ServeFault → StepFault
 step_fault_of serve_fault.Stopped = Halted

@@ -9,7 +9,6 @@ use Rattle.hba_regs.specs.HbaState.{IsBelow, IsKept, IsPowered, asked_link, enab
 use Rattle.hba_regs.specs.CapFields.{CapFields}
 use Rattle.hba_regs.specs.Interrupts.{raised, place_of}
 use Rattle.hba_regs.specs.PortStates.{ended_by_signature}
-use Rattle.hba_regs.specs.Linking.{is_free_link}
 use Rattle.hba_regs.specs.Writing.{remaining}
 use Rattle.hba_regs.specs.declared.soft_reset.SoftReset.{SoftReset}
 use Rattle.hba_regs.specs.declared.soft_reset.SoftReset.TheVariants.{Off, Held, Ending}
@@ -147,6 +146,12 @@ asked_by false b c present later sud next link e = e
 
 pub stays_asked : (det : ℕ) (present later sud next : Bool) (link : Link) → asked_link det present sud link ≡ link → asked_link det later next link ≡ link
 stays_asked det present later sud next link e = asked_by (nat_eq det 0) (nat_eq det 1) (nat_eq det 4) present later sud next link e
+
+-- a link that DET neither holds in COMRESET nor has disabled
+abbrev pub is_free_link : Link → Bool
+is_free_link Up = true
+is_free_link Listening = true
+is_free_link link = false
 
 -- a link that is up or listens may come up, and be lost, whatever DET is
 free_by : (a b c present later sud next : Bool) (link other : Link) → (if a then spun_link present sud link else if b then InReset else if c then Offline else link) ≡ link

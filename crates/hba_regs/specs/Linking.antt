@@ -12,12 +12,6 @@ abbrev pub is_up : Link → Bool
 is_up Up = true
 is_up link = false
 
--- a link that DET neither holds in COMRESET nor has disabled
-abbrev pub is_free_link : Link → Bool
-is_free_link Up = true
-is_free_link Listening = true
-is_free_link link = false
-
 -- the link goes down: no command is left, and the device's status and signature are gone. DIAG.N (bit 16) reports a PhyRdy that is lost
 abbrev pub went_down : HbaPort → Link → HbaPort
 went_down p link =

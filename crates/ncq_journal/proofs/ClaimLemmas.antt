@@ -1,16 +1,22 @@
 -- A pass over a journal that holds each answer against what is claimed, and keeps none.
-use Rattle.std.proofs.Common.{ℕ, ◌<◌, ◌≤◌, Bool, false, List, [], length, set, replicate, get_or, get_or-set_same, get_or-set_other, length-set, ap, sym, subst, ◌∙◌, Option, None, Some, take, arith, inl, inr}
-use Rattle.std.specs.Prelude.{◌↔◌, IsTrue}
+use Rattle.std.proofs.Common.{◌≡◌, ℕ, ◌<◌, ◌≤◌, Bool, false, List, [], length, set, replicate, get_or, get_or-set_same, get_or-set_other, length-set, ap, sym, subst, ◌∙◌, Option, None, Some, take, arith, inl, inr}
+use Rattle.std.specs.Prelude.{◌↔◌, IsTrue, slice_index_or}
 use Rattle.std.proofs.lemmas.Bool.{cases_eq}
 use Rattle.std.proofs.lemmas.List.{get_or-replicate, length-replicate}
 use Rattle.ncq_journal.specs.Answer.{Answer, answer}
-use Rattle.ncq_journal.specs.Claims.{AreJudged, Holds, IsJudging}
+use Rattle.ncq_journal.specs.Claims.{AreJudged, Holds}
 use Rattle.ncq_journal.specs.Entry.{Entry}
 use Rattle.ncq_journal.specs.History.{history_of}
-use Rattle.ncq_journal.specs.Passing.{IsPassed}
 use Rattle.ncq_journal.proofs.HistoryLemmas.{history_all, length_history}
-use Rattle.ncq_journal.proofs.PassLemmas.{passed_none}
+use Rattle.ncq_journal.proofs.PassLemmas.{IsPassed, passed_none}
 use Rattle.ncq_journal.specs.declared.event.Event.{Event}
+
+-- what a pass over a journal with so many entries knows: the answers so far, which it doesn't keep, and which claims they bear out
+pub record IsJudging (image : List ℕ) (past : List Entry) (total depth : ℕ) (now : List ℕ) (requests : List (Option ℕ)) (claims : List (Option Answer)) (holding : List Bool) : Type 0 where
+  pub answers : List (Option Answer)
+  pub passed : IsPassed image past total depth now requests answers
+  pub count : length holding ≡ total
+  pub each : (n : ℕ) → n < total → IsTrue (slice_index_or holding n false) ↔ Holds (slice_index_or claims n None) (slice_index_or answers n None)
 
 -- nothing that is claimed holds of a request without an answer
 holds_none : (claim : Option Answer) → IsTrue false ↔ Holds claim None

@@ -13,8 +13,8 @@ use Rattle.ncq_journal.proofs.PhaseLemmas.{fails_not_free}
 use Rattle.ncq_journal.specs.declared.event.Event.{Event}
 use Rattle.ncq_journal.specs.declared.event.Event.TheVariants as code
 use Rattle.ncq_journal.specs.declared.op.Op.{Op}
-use Rattle.ncq_journal.specs.Passing.{IsPassed, IsImageAfter, completed_over}
-use Rattle.ncq_journal.proofs.PassLemmas.{IsEnding, IsMoving, IsNext, accepted_taken, ending, moving, next_is, not_issue, passed_complete, passed_fail, passed_issue, passed_quiet, passed_zero}
+use Rattle.ncq_journal.specs.Passing.{IsImageAfter, completed_over}
+use Rattle.ncq_journal.proofs.PassLemmas.{IsEnding, IsMoving, IsNext, IsPassed, accepted_taken, ending, moving, next_is, not_issue, passed_complete, passed_fail, passed_issue, passed_quiet, passed_zero}
 
 -- an event of a pass
 pub record IsAt {A : _} (image : List ℕ) (events : List (Event A)) (depth i : ℕ) (event : Event A) : Type 0 where

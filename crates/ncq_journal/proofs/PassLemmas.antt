@@ -22,7 +22,7 @@ use Rattle.ncq_journal.specs.declared.event.Event.{Event}
 use Rattle.ncq_journal.specs.declared.event.Event.TheVariants as code
 use Rattle.ncq_journal.specs.declared.op.Op.{Op}
 use Rattle.ncq_journal.specs.Image.{sector_at, covers, is_write, written_at, zeroed, IsZeroedOver}
-use Rattle.ncq_journal.specs.Passing.{IsPassed, IsImageAfter, completed_over}
+use Rattle.ncq_journal.specs.Passing.{IsImageAfter, completed_over}
 use Rattle.ncq_journal.specs.Sector.{sector, completed}
 use Rattle.ncq_journal.proofs.ImageLemmas.{joined-sectors}
 use Rattle.std.proofs.lemmas.List.{get_or-replicate, length-replicate, length-take-le}
@@ -64,6 +64,15 @@ pub same_request : (r : Request) (n tag u : ℕ) (work : Work) → r.number ≡ 
 same_request r n tag u work e f =
     let w : r.work ≡ work = cc in
     ap (λ k. Some (record { number = k; work = r.work })) e ∙ ap (λ x. Some (record { number = n; work = x })) w
+
+-- the image as it is then, the number of each tag's request, and the answers so far of a journal with so many entries
+pub record IsPassed (image : List ℕ) (past : List Entry) (total depth : ℕ) (now : List ℕ) (requests : List (Option ℕ)) (answers : List (Option Answer)) : Type 0 where
+  pub size : length now ≡ length image
+  pub sectors : (s : ℕ) → sector_at now s ≡ sector image past s
+  pub tags : length requests ≡ depth
+  pub numbers : (t : ℕ) → t < depth → slice_index_or requests t None ≡ option_map (λ r. r.number) (request past t)
+  pub count : length answers ≡ total
+  pub each : (n : ℕ) → n < total → slice_index_or answers n None ≡ answer image past n
 
 -- the beginning of a pass
 pub passed_none : (image : List ℕ) (total depth : ℕ) → IsPassed image [] total depth image (replicate depth None) (replicate total None)

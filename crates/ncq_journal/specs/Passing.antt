@@ -9,15 +9,6 @@ use Rattle.ncq_journal.specs.Request.{request}
 use Rattle.ncq_journal.specs.Sector.{sector}
 use Rattle.ncq_journal.specs.Work.{Work, Read, Write}
 
--- the image as it is then, the number of each tag's request, and the answers so far of a journal with so many entries
-pub record IsPassed (image : List ℕ) (past : List Entry) (total depth : ℕ) (now : List ℕ) (requests : List (Option ℕ)) (answers : List (Option Answer)) : Type 0 where
-  pub size : length now ≡ length image
-  pub sectors : (s : ℕ) → sector_at now s ≡ sector image past s
-  pub tags : length requests ≡ depth
-  pub numbers : (t : ℕ) → t < depth → slice_index_or requests t None ≡ option_map (λ r. r.number) (request past t)
-  pub count : length answers ≡ total
-  pub each : (n : ℕ) → n < total → slice_index_or answers n None ≡ answer image past n
-
 -- the answer of a command that is completed at an entry, over the image as it is then
 abbrev pub completed_over : List ℕ → ℕ → Work → Answer
 completed_over now entry (Read lba sectors) = record { entry = entry; outcome = outcome.Read; bytes = take (512 * sectors) (drop (512 * lba) now) }

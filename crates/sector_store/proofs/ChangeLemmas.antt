@@ -1,12 +1,17 @@
 -- What holds of the slots once one has changed.
 use Rattle.std.proofs.Common.{◌≡◌, ℕ, ◌+◌, ◌*◌, ◌/◌, ◌%◌, Bool, true, false, List, [], ◌∷◌, ◌++◌, length, Option, None, Some, ap, sym, ◌∙◌, arith, inl, inr, ◌⊎◌, cond, eqb, refl, subst}
 use Rattle.std.proofs.lemmas.Bool.{cases_eq, cond-true, cond-false, eq-eqb, ne_eqb, eqb-true, or_cases, or_left, or_right, true≢false, false_from_ne_true}
+use Rattle.std.proofs.lemmas.List.{length-replicate}
 use Rattle.std.specs.Option.{is_some}
 use Rattle.ncq_journal.specs.Image.{sector_at}
-use Rattle.sector_store.specs.Layers.{Layers, page_or, page_now, page_bytes, kept_layers, dropped_layers, zero_page, length-zero_page, IsSlotWritten}
+use Rattle.sector_store.specs.Layers.{Layers, page_or, page_now, page_bytes, kept_layers, dropped_layers, zero_page, IsSlotWritten}
 use Rattle.sector_store.specs.Slots.{layers_of, HasGrown, IsEmpty, IsExchanged}
 use Rattle.sector_store.proofs.ShownLemmas.{whole_now}
 use Rattle.sector_store.specs.Shown.{sector_over, sector_now, sector_kept, is_held, is_touched, is_written, among, HasWholePages, AreTouched, ChangesAt, IsWrittenAt, ShowSame, IsPageOf}
+
+pub length-zero_page : length zero_page ≡ 4096
+unfolding zero_page
+length-zero_page = length-replicate {A = ℕ} 4096 0
 
 -- what one slot's change leaves as it is stays so at every number
 pub changes-same : {X : Type 0} (F : Layers → X) (number : ℕ) (old new : ℕ → Option Layers) → ChangesAt number old new → F (layers_of (new number)) ≡ F (layers_of (old number))

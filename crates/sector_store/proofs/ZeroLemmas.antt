@@ -6,10 +6,10 @@ use borrow.Rule.Slice.PartMut.{put_mid}
 use Rattle.ncq_journal.specs.Image.{IsZeroedOver, is_within, sector_at, zero_sector}
 use Rattle.ncq_journal.proofs.ImageLemmas.{sector_at-put_mid}
 use Rattle.sector_store.specs.Blank.{IsBlank, AreClearable, AreMarkable, IsCleared}
-use Rattle.sector_store.specs.Layers.{Layers, page_now, zero_page, length-zero_page}
+use Rattle.sector_store.specs.Layers.{Layers, page_now, zero_page}
 use Rattle.sector_store.specs.Slots.{layers_of}
 use Rattle.sector_store.specs.Shown.{sector_over, sector_now, joined, is_held, is_touched, is_writable, ChangesAt, IsWrittenAt, ShowSame}
-use Rattle.sector_store.proofs.ChangeLemmas.{kept_dropped}
+use Rattle.sector_store.proofs.ChangeLemmas.{kept_dropped, length-zero_page}
 use Rattle.sector_store.proofs.ShownLemmas.{AreSectors, length-joined, sector_at-joined, sector_at-past}
 
 -- a part of so many zeros is zeros

@@ -1,15 +1,10 @@
 -- The two layers of pages over what a disk has below them: a page written since the last keep hides one that was kept.
 use Rattle.std.specs.Prelude.{◌≡◌, ℕ, ◌==◌, if◌then◌else◌, Bool, true, false, List, [], length, replicate, Option, None, Some, is_some}
-use Rattle.std.proofs.lemmas.List.{length-replicate}
 use Rattle.ncq_journal.specs.Image.{sector_at}
 
 -- a page of zeros
 unfoldable pub zero_page : List ℕ
 zero_page = replicate 4096 0
-
-pub length-zero_page : length zero_page ≡ 4096
-unfolding zero_page
-length-zero_page = length-replicate {A = ℕ} 4096 0
 
 -- what one layer has: a page, as the list of its bytes; whether these are in memory, since those of a page of zeros need not be; whether the number is in the list
 pub record Cover : Type 0 where

@@ -1,7 +1,7 @@
 -- what is known so far is that of the events so far
 use Rattle.std.proofs.Common.{length, take}
-use Rattle.ncq_journal.specs.Claims.{IsJudging}
 use Rattle.ncq_journal.specs.History.{history_of}
+use Rattle.ncq_journal.proofs.ClaimLemmas.{IsJudging}
 use Rattle.ncq_journal.proofs.answer.claims.claims_hold.Given as goal
 
 abbrev pub invariant-loop-number : goal.invariant-loop-number
