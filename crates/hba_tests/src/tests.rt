@@ -1,3 +1,4 @@
+mod amounts;
 mod answers;
 mod blocks;
 mod capabilities;
