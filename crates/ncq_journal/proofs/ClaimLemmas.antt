@@ -1,6 +1,6 @@
 -- A pass over a journal that holds each answer against what is claimed, and keeps none.
 use Rattle.std.proofs.Common.{◌≡◌, ℕ, ◌<◌, ◌≤◌, Bool, false, List, [], length, set, replicate, get_or, get_or-set_same, get_or-set_other, length-set, ap, sym, subst, ◌∙◌, Option, None, Some, take, arith, inl, inr}
-use Rattle.std.specs.Prelude.{◌↔◌, IsTrue, slice_index_or}
+use Rattle.std.specs.Prelude.{◌↔◌, IsTrue}
 use Rattle.std.proofs.lemmas.Bool.{cases_eq}
 use Rattle.std.proofs.lemmas.List.{get_or-replicate, length-replicate}
 use Rattle.ncq_journal.specs.Answer.{Answer, answer}
@@ -16,7 +16,7 @@ pub record IsJudging (image : List ℕ) (past : List Entry) (total depth : ℕ) 
   pub answers : List (Option Answer)
   pub passed : IsPassed image past total depth now requests answers
   pub count : length holding ≡ total
-  pub each : (n : ℕ) → n < total → IsTrue (slice_index_or holding n false) ↔ Holds (slice_index_or claims n None) (slice_index_or answers n None)
+  pub each : (n : ℕ) → n < total → IsTrue (get_or holding n false) ↔ Holds (get_or claims n None) (get_or answers n None)
 
 -- nothing that is claimed holds of a request without an answer
 holds_none : (claim : Option Answer) → IsTrue false ↔ Holds claim None

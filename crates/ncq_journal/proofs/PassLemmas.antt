@@ -70,9 +70,9 @@ pub record IsPassed (image : List ℕ) (past : List Entry) (total depth : ℕ) (
   pub size : length now ≡ length image
   pub sectors : (s : ℕ) → sector_at now s ≡ sector image past s
   pub tags : length requests ≡ depth
-  pub numbers : (t : ℕ) → t < depth → slice_index_or requests t None ≡ option_map (λ r. r.number) (request past t)
+  pub numbers : (t : ℕ) → t < depth → get_or requests t None ≡ option_map (λ r. r.number) (request past t)
   pub count : length answers ≡ total
-  pub each : (n : ℕ) → n < total → slice_index_or answers n None ≡ answer image past n
+  pub each : (n : ℕ) → n < total → get_or answers n None ≡ answer image past n
 
 -- the beginning of a pass
 pub passed_none : (image : List ℕ) (total depth : ℕ) → IsPassed image [] total depth image (replicate depth None) (replicate total None)

@@ -1,12 +1,8 @@
 -- What one pass over a journal knows after some of its entries.
-use Rattle.std.specs.Prelude.{◌≡◌, ℕ, ◌*◌, ◌<◌, List, [], length, take, drop, Option, None, slice_index_or}
-use Rattle.std.specs.Option.{option_map}
+use Rattle.std.specs.Prelude.{◌≡◌, ℕ, ◌*◌, List, [], length, take, drop}
 use Rattle.ncq_journal.specs.declared.outcome.Outcome.TheVariants as outcome
-use Rattle.ncq_journal.specs.Answer.{Answer, answer}
-use Rattle.ncq_journal.specs.Entry.{Entry}
-use Rattle.ncq_journal.specs.Image.{sector_at, IsWrittenOver}
-use Rattle.ncq_journal.specs.Request.{request}
-use Rattle.ncq_journal.specs.Sector.{sector}
+use Rattle.ncq_journal.specs.Answer.{Answer}
+use Rattle.ncq_journal.specs.Image.{IsWrittenOver}
 use Rattle.ncq_journal.specs.Work.{Work, Read, Write}
 
 -- the answer of a command that is completed at an entry, over the image as it is then
