@@ -1,6 +1,6 @@
 //! A command that is made ready before the port's lock is taken.
 
-ghost use Rattle.std.specs.Prelude.{◌≡◌, ◌<◌, None, IfOk, IfErr, OnOk, OnErr};
+ghost use Rattle.std.specs.Prelude.{◌≡◌, ◌<◌, false, None, IfOk, IfErr, OnOk, OnErr};
 ghost use Rattle.ncq_journal.specs.Work.{work_of, sectors_of};
 ghost use Rattle.ahci_table.specs.{Build.{Carries}, Command.{op}, Defaults.{default_list}, Fit.{IsFit}};
 ghost use Rattle.ahci_port.specs.{Faults.{RefusesIssue}, PortView.{next_number}, Steps.{IsIssued}};
@@ -30,7 +30,7 @@ impl<A: Allocator + Clone> Ready<A> {
     /// Those of `Window::build`; also `OutOfMemory` where memory for the buffer or the copy was refused.
     pub(crate) fn new(alloc: A, tag: u8, op: &Op<A>) -> Result<Self, BuildFault>
         requires { tag < 32 }
-        ensures carries { IfOk result (λ r. Carries tag (work_of op.now) (default_list (sectors_of (work_of op.now))) r.window) }
+        ensures carries { IfOk result (λ r. Carries tag (work_of op.now) false (default_list (sectors_of (work_of op.now))) r.window) }
         ensures fit { IfOk result (λ r. IsFit r.window) }
         ensures asked { IfOk result (λ r. work_of r.asked ≡ work_of op.now) }
         ensures buffer { IfOk result (λ r. r.buffer.items ≡ buffer_for (work_of op.now)) }

@@ -1,5 +1,5 @@
 -- How a command that C asks for is answered: its arguments first, then what the port says.
-use Rattle.std.specs.Prelude.{◌≡◌, ℕ, ◌*◌, ◌&&◌, not, nat_eq, nat_lt, List, length, Option, None, Some, if◌then◌else◌}
+use Rattle.std.specs.Prelude.{◌≡◌, ℕ, ◌*◌, ◌%◌, Bool, ◌&&◌, not, nat_eq, nat_le, nat_lt, List, length, Option, None, Some, if◌then◌else◌}
 use Rattle.std.specs.Option.{option_or}
 use Rattle.ahci_port.specs.Faults.{early_refusal, submit_refusal}
 use Rattle.ahci_port.specs.PortView.{PortView}
@@ -32,17 +32,23 @@ AnswersIssue tag header memory answer old new before after =
     AnswersUnless (issue_refused old tag (length header)) answer
     (AnswersCopy (record { tag = tag; header = header; bytes = memory }) answer old new before after) (Same old new before after)
 
+-- the kinds of a command: 0 reads, 1 writes, and 2 and 3 do the same with FUA
+abbrev pub writes : (kind : ℕ) → Bool
+writes kind = nat_eq (kind % 2) 1
+
+abbrev pub has_fua : (kind : ℕ) → Bool
+has_fua kind = nat_le 2 kind
+
 -- why no command is made of these arguments: the kind, and the length of a write's data
 abbrev pub kind_refusal : (kind sectors bytes : ℕ) → Option Status
 kind_refusal kind sectors bytes =
-    if nat_lt 1 kind then Some status.BadKind
-    else (if nat_eq kind 1 && not (nat_eq bytes (512 * sectors)) then Some (status.Refused refusal.BadCount) else None)
+    if nat_lt 3 kind then Some status.BadKind
+    else (if writes kind && not (nat_eq bytes (512 * sectors)) then Some (status.Refused refusal.BadCount) else None)
 
 -- why a command is not submitted: its arguments, and then what the port says, all of it before memory is asked for
 abbrev pub submit_refused : PortView → (tag kind lba sectors bytes : ℕ) → Option Status
 submit_refused port tag kind lba sectors bytes =
     with_tag tag (option_or (kind_refusal kind sectors bytes) (refused of_submit (submit_refusal port tag lba sectors)))
 
--- kind 0 reads, kind 1 writes
 abbrev pub work_asked : (kind lba sectors : ℕ) → List ℕ → Work
-work_asked kind lba sectors bytes = if nat_eq kind 0 then Read lba sectors else Write lba bytes
+work_asked kind lba sectors bytes = if writes kind then Write lba bytes else Read lba sectors

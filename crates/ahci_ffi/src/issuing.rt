@@ -1,8 +1,8 @@
 //! How software issues a command: by a window as it lies in memory, or by one that is laid out here.
 
-ghost use Rattle.std.specs.Prelude.{◌≡◌, ◌≤◌, length, IfOk};
+ghost use Rattle.std.specs.Prelude.{◌≡◌, length, IfOk};
 ghost use Rattle.ncq_journal.specs.Work.{work_of};
-ghost use Rattle.ahci_ffi.specs.{Asked.{AnswersIssue, kind_refusal, work_asked}, Calls.{AnswersSubmit}, Done.{AnswersWindow}};
+ghost use Rattle.ahci_ffi.specs.{Asked.{AnswersIssue, has_fua, kind_refusal, work_asked, writes}, Calls.{AnswersSubmit}, Done.{AnswersWindow}};
 
 use crate::status::Status;
 use crate::windows::{tag_and_header, window_over};
@@ -39,8 +39,8 @@ pub fn issue<A: Allocator + Copy, S: SectorStore>(
     }
 }
 
-/// Issues a read or a write of whole sectors, in a window over the default pieces. `number` is the request's then. All that can be
-/// wrong is looked at before memory is asked for.
+/// Issues a read or a write of whole sectors, with FUA or without, in a window over the default pieces. `number` is the request's
+/// then. All that can be wrong is looked at before memory is asked for.
 pub fn submit<A: Allocator + Copy, S: SectorStore>(
     port: &mut Port<A, S>,
     alloc: A,
@@ -67,7 +67,7 @@ pub fn submit<A: Allocator + Copy, S: SectorStore>(
         Ok(op) => op,
         Err(refused) => return refused.into(),
     };
-    match port.submit_tested(tag, op) {
+    match port.submit_tested(tag, op, has_fua(kind)) {
         Ok(issued) => {
             *number = issued;
             Status::Done
@@ -76,20 +76,34 @@ pub fn submit<A: Allocator + Copy, S: SectorStore>(
     }
 }
 
+/// Whether a command of this kind writes: 1 and 3 do, 0 and 2 read.
+fn writes(kind: u32) -> bool
+    ensures { result ≡ writes kind }
+{
+    kind % 2 == 1
+}
+
+/// Whether it has FUA: 2 and 3 have.
+fn has_fua(kind: u32) -> bool
+    ensures { result ≡ has_fua kind }
+{
+    kind >= 2
+}
+
 /// Why no command is made of these arguments.
 fn kind_refusal(kind: u32, sectors: u32, payload: &[u8]) -> Option<Status>
     ensures { result ≡ kind_refusal kind sectors (length payload.now) }
 {
-    if kind > 1 {
+    if kind > 3 {
         return Some(Status::BadKind);
     }
-    if kind == 1 && payload.len() != SECTOR * sectors as usize {
+    if writes(kind) && payload.len() != SECTOR * sectors as usize {
         return Some(Status::Refused(Refusal::BadCount));
     }
     None
 }
 
-/// The command: 0 reads, 1 writes.
+/// The command.
 fn asked<A: Allocator>(
     alloc: A,
     kind: u32,
@@ -97,10 +111,9 @@ fn asked<A: Allocator>(
     sectors: u32,
     payload: &[u8],
 ) -> Result<Op<A>, AllocError>
-    requires { kind ≤ 1 }
     ensures { IfOk result (λ o. work_of o ≡ work_asked kind lba sectors payload.now) }
 {
-    if kind == 0 {
+    if !writes(kind) {
         return Ok(Op::Read { lba, sectors });
     }
     let bytes = Bytes::from_vec(Vec::from_slice(alloc, payload)?);

@@ -1,5 +1,5 @@
 -- A command that was taken out of its slot is sent, or is there again.
-use Rattle.std.proofs.Common.{◌≡◌, ℕ, zero, suc, List, [], ◌∷◌, set, Option, None, Some, Result, Ok, Err, OnOk, OnErr, refl, ap, sym, subst, ◌∙◌}
+use Rattle.std.proofs.Common.{◌≡◌, ℕ, zero, suc, false, List, [], ◌∷◌, set, Option, None, Some, Result, Ok, Err, OnOk, OnErr, refl, ap, sym, subst, ◌∙◌}
 use Rattle.std.proofs.lemmas.List.{set-get_or}
 use Rattle.hba_command.specs.declared.entry.PrdEntry.{PrdEntry}
 use Rattle.hba_command.specs.declared.task.Task.{Task}
@@ -17,11 +17,11 @@ set_twice (x ∷ l) zero a b = refl
 set_twice (x ∷ l) (suc i) a b = ap (λ y. x ∷ y) (set_twice l i a b)
 
 pub sent_by_port : (slot tag : ℕ) (t : Task) (list : List PrdEntry) (bytes : List ℕ) (h new : HbaView) (port : PortView) (work : Work)
-    → tag ≡ slot → IsSubmitted tag work h.port port → work ≡ asked_for t bytes
+    → tag ≡ slot → IsSubmitted tag work false h.port port → work ≡ asked_for t bytes
     → new ≡ record h { port = port; slots = set h.slots slot (Some (Sent t list)) } → IsSent slot t list bytes h new
 sent_by_port slot tag t list bytes h new port work same submitted asked made = record {
   port = port;
-  submitted = subst (λ w. IsSubmitted slot w h.port port) asked (subst (λ n. IsSubmitted n work h.port port) same submitted);
+  submitted = subst (λ w. IsSubmitted slot w false h.port port) asked (subst (λ n. IsSubmitted n work false h.port port) same submitted);
   sent = made;
 }
 
@@ -30,7 +30,7 @@ pub sends : (slot : ℕ) (t : Task) (list : List PrdEntry) (bytes : List ℕ) (h
 sends slot t list bytes h taken new there was sent =
     subst (λ c. Sends slot c h new) (sym there) (record {
       port = sent.port;
-      submitted = subst (λ p. IsSubmitted slot (asked_for t bytes) p sent.port) (ap (λ v. v.port) was) sent.submitted;
+      submitted = subst (λ p. IsSubmitted slot (asked_for t bytes) false p sent.port) (ap (λ v. v.port) was) sent.submitted;
       sent =
           sent.sent
           ∙ ap {A = HbaView} {B = HbaView} (λ v. record v { port = sent.port; slots = set v.slots slot (Some (Sent t list)) }) was

@@ -230,7 +230,7 @@ sent_to h slot c port = record h { port = port; slots = slice_set h.slots slot (
 
 pub record IsSent (slot : ℕ) (t : Task) (list : List PrdEntry) (bytes : List ℕ) (old new : HbaView) : Type 0 where
   pub port : PortView
-  pub submitted : IsSubmitted slot (asked_for t bytes) old.port port
+  pub submitted : IsSubmitted slot (asked_for t bytes) false old.port port
   pub sent : new ≡ sent_to old slot (Sent t list) port
 
 -- of a command that is read

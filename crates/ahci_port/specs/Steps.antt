@@ -78,10 +78,10 @@ pub record IsIssued (w : WindowState) (old new : PortView) : Type 0 where
   pub area_same : new.area ≡ old.area
   pub windows_are : new.windows ≡ slice_set old.windows w.tag (Some w)
 
--- a command is submitted: it is issued by a window over the default pieces
-pub record IsSubmitted (tag : ℕ) (work : Work) (old new : PortView) : Type 0 where
+-- a command is submitted, with FUA or without: it is issued by a window over the default pieces
+pub record IsSubmitted (tag : ℕ) (work : Work) (fua : Bool) (old new : PortView) : Type 0 where
   pub window : WindowState
-  pub built : IsBuilt tag work (default_list (sectors_of work)) window
+  pub built : IsBuilt tag work fua (default_list (sectors_of work)) window
   pub issued : IsIssued window old new
 
 -- the device takes a command: a D2H Register FIS

@@ -31,10 +31,10 @@ use Rattle.ncq_journal.specs.declared.outcome.Outcome.{Outcome}
 use Rattle.ncq_journal.specs.declared.outcome.Outcome.TheVariants as outcome
 use Rattle.ahci_replay.specs.Refusals.{disk_refusal, of_issue, refusal_on}
 
--- a command is issued by a window over the default pieces, and the answer has the entry of its Issue
+-- a command is issued without FUA by a window over the default pieces, and the answer has the entry of its Issue
 pub record HasIssued (tag : ℕ) (work : Work) (old new : PortView) (said : Said) : Type 0 where
   pub window : WindowState
-  pub built : IsBuilt tag work (default_list (sectors_of work)) window
+  pub built : IsBuilt tag work false (default_list (sectors_of work)) window
   pub issued : IsIssued window old new
   pub told : said ≡ says.Issued (next_number old)
 

@@ -83,7 +83,7 @@ fn submit<A: Allocator + Copy>(
     ensures err { OnErr result (port.new ≡ port.old) }
     ensures why { IfErr result (λ e. e ≡ Unanswered.OutOfMemory) }
 {
-    match port.submit_tested(tag, op) {
+    match port.submit_tested(tag, op, false) {
         Ok(number) => Ok(ScriptAnswer::Issued(number)),
         Err((_op, refused)) => Err(refused.into()),
     }

@@ -1,5 +1,5 @@
 -- What is written into a new window.
-use Rattle.std.proofs.Common.{◌≡◌, ℕ, ◌+◌, ◌-◌, ◌*◌, ◌<◌, ◌≤◌, zero, suc, max, ◌%◌, true, false, nat_eq, List, [], ◌∷◌, ◌++◌, length, take, drop, replicate, get_or, ap, sym, refl, subst, ◌∙◌, arith}
+use Rattle.std.proofs.Common.{◌≡◌, ℕ, ◌+◌, ◌-◌, ◌*◌, ◌<◌, ◌≤◌, zero, suc, max, ◌%◌, Bool, true, false, nat_eq, List, [], ◌∷◌, ◌++◌, length, take, drop, replicate, get_or, ap, sym, refl, subst, ◌∙◌, arith}
 use Rattle.std.specs.List.{All, flat_map}
 use Rattle.std.proofs.lemmas.Bool.{eqb-true}
 use Rattle.std.proofs.lemmas.Grind.{flat_map-append}
@@ -40,9 +40,9 @@ pub length-prdt : (start : ℕ) (ps : List Piece) → length (flat_map (entry_fo
 length-prdt start [] = refl
 length-prdt start (p ∷ ps) = let rest = length-prdt start ps in omega arith
 
-pub length-table : (tag : ℕ) (work : Work) (ps : List Piece) → length (table_for tag work ps) ≡ entry_place (length ps)
-length-table tag work ps =
-    let front = h2d_bytes (h2d_for (queued_for tag work)) ++ replicate 108 0 in
+pub length-table : (tag : ℕ) (work : Work) (fua : Bool) (ps : List Piece) → length (table_for tag work fua ps) ≡ entry_place (length ps)
+length-table tag work fua ps =
+    let front = h2d_bytes (h2d_for (queued_for tag work fua)) ++ replicate 108 0 in
     length-append front (flat_map (entry_for (base tag)) ps) ∙ ap (λ n. 128 + n) (length-prdt (base tag) ps)
 
 -- each piece ends where the one that reaches furthest ends, or before
@@ -82,14 +82,14 @@ pub replaced_all : (from text : List ℕ) → length from ≡ length text → re
 replaced_all from text e = ap (λ z. from ++ z) (drop_all (0 + length from) text (omega arith)) ∙ append-nil from
 
 -- the window that is written
-pub built : (tag : ℕ) (work : Work) (ps : List Piece) (header bytes table : List ℕ) → IsFree work ps → header ≡ header_for tag work (length ps)
-    → table ≡ table_for tag work ps → length bytes ≡ furthest ps → joined ps bytes ≡ data_for work
+pub built : (tag : ℕ) (work : Work) (fua : Bool) (ps : List Piece) (header bytes table : List ℕ) → IsFree work ps → header ≡ header_for tag work (length ps)
+    → table ≡ table_for tag work fua ps → length bytes ≡ furthest ps → joined ps bytes ≡ data_for work
     → ((x : ℕ) → in_some x ps ≡ false → get_or bytes x 0 ≡ get_or table x 0)
-    → IsBuilt tag work ps (record { tag = tag; header = header; bytes = bytes })
-built tag work ps header bytes table f h is len moved others =
+    → IsBuilt tag work fua ps (record { tag = tag; header = header; bytes = bytes })
+built tag work fua ps header bytes table f h is len moved others =
     let n = furthest ps - length table in
     let t = entry_place (length ps) in
-    let front : length table ≡ t = ap length is ∙ length-table tag work ps in
+    let front : length table ≡ t = ap length is ∙ length-table tag work fua ps in
     let after = all_after work ps f in
     let fits : t ≤ furthest ps = table_fits t ps f.has after in
     let whole : length (table ++ replicate n 0) ≡ furthest ps = length-append table (replicate n 0)

@@ -83,12 +83,12 @@ abbrev entry_with : ℕ → Piece → EntryFields
 entry_with start p = record { dba = start + p.at; dbau = 0; dbc = p.len - 1 }
 
 -- entry i of a window that was written
-pub entry_written : (tag : ℕ) (work : Work) (ps : List Piece) (w : WindowState) (i : ℕ) (d : Piece) → tag < 32 → IsFree work ps → IsBuilt tag work ps w → i < length ps
+pub entry_written : (tag : ℕ) (work : Work) (fua : Bool) (ps : List Piece) (w : WindowState) (i : ℕ) (d : Piece) → tag < 32 → IsFree work ps → IsBuilt tag work fua ps w → i < length ps
     → entry_of w i ≡ entry_with (base tag) (get_or ps i d)
-entry_written tag work ps w i d low f b below =
+entry_written tag work fua ps w i d low f b below =
     let p = get_or ps i d in
     let t = entry_place (length ps) in
-    let front = h2d_bytes (h2d_for (queued_for tag work)) ++ replicate 108 0 in
+    let front = h2d_bytes (h2d_for (queued_for tag work fua)) ++ replicate 108 0 in
     let flat = flat_map (entry_for (base tag)) ps in
     let even = all_even work ps f i d below in
     let some = even.some in
@@ -115,14 +115,14 @@ piece_back start p some =
     both a b = record { at = a; len = b }
 
 -- the number of entries is that of the pieces
-pub header_back : (tag : ℕ) (work : Work) (ps : List Piece) (w : WindowState) → tag < 32 → IsFree work ps → IsBuilt tag work ps w → header_of w ≡ fields (is_write work) (length ps) (base tag)
-header_back tag work ps w low f b = ap header_at b.header_is ∙ header_written tag work (length ps) low f.few
+pub header_back : (tag : ℕ) (work : Work) (fua : Bool) (ps : List Piece) (w : WindowState) → tag < 32 → IsFree work ps → IsBuilt tag work fua ps w → header_of w ≡ fields (is_write work) (length ps) (base tag)
+header_back tag work fua ps w low f b = ap header_at b.header_is ∙ header_written tag work (length ps) low f.few
 
-pub pieces_back : (tag : ℕ) (work : Work) (ps : List Piece) (w : WindowState) → tag < 32 → IsFree work ps → IsBuilt tag work ps w → pieces w ≡ ps
-pieces_back tag work ps w low f b =
+pub pieces_back : (tag : ℕ) (work : Work) (fua : Bool) (ps : List Piece) (w : WindowState) → tag < 32 → IsFree work ps → IsBuilt tag work fua ps w → pieces w ≡ ps
+pieces_back tag work fua ps w low f b =
     let n = (header_of w).prdtl in
     let g = λ (i : ℕ). piece_of (base w.tag) (entry_of w i) in
-    let count : n ≡ length ps = ap (λ h. h.prdtl) (header_back tag work ps w low f b) in
+    let count : n ≡ length ps = ap (λ h. h.prdtl) (header_back tag work fua ps w low f b) in
     let len : length (pieces w) ≡ n = length-map-range_with_len g 0 n in
     same_lists (pieces w) ps (len ∙ count)
     (λ k d l.
@@ -130,7 +130,7 @@ pieces_back tag work ps w low f b =
     let within : k < length ps = omega arith in
     get_or-map-range_with_len g 0 n k k d below (omega arith)
     ∙ ap (λ t. piece_of (base t) (entry_of w k)) b.tag_is
-    ∙ ap (piece_of (base tag)) (entry_written tag work ps w k d low f b within)
+    ∙ ap (piece_of (base tag)) (entry_written tag work fua ps w k d low f b within)
     ∙ piece_back (base tag) (get_or ps k d) (all_even work ps f k d within).some)
 
 -- the queued command, from its FIS
@@ -152,38 +152,40 @@ sectors_back s some most =
           subst (λ n. cond (nat_eq (n % 65536) 0) 65536 (n % 65536) ≡ n) is refl
     ]
 
-abbrev command : Bool → ℕ → ℕ → ℕ → QueuedFields
-command write tag lba sectors = record { write = write; tag = tag; lba = lba; sectors = sectors; fua = false }
+abbrev command : Bool → ℕ → ℕ → ℕ → Bool → QueuedFields
+command write tag lba sectors fua = record { write = write; tag = tag; lba = lba; sectors = sectors; fua = fua }
 
-asked_back : (write : Bool) (tag lba sectors : ℕ) → tag < 32 → 1 ≤ sectors → sectors ≤ 65536
-    → (is_queued (h2d_for (command write tag lba sectors)) ≡ true) × (asked_by (h2d_for (command write tag lba sectors)) ≡ command write tag lba sectors)
-asked_back true tag lba sectors low some most = (refl, (let e : 8 * tag / 8 % 32 ≡ tag = omega arith in rw (e, sectors_back sectors some most) refl))
-asked_back false tag lba sectors low some most = (refl, (let e : 8 * tag / 8 % 32 ≡ tag = omega arith in rw (e, sectors_back sectors some most) refl))
+asked_back : (write : Bool) (tag lba sectors : ℕ) (fua : Bool) → tag < 32 → 1 ≤ sectors → sectors ≤ 65536
+    → (is_queued (h2d_for (command write tag lba sectors fua)) ≡ true) × (asked_by (h2d_for (command write tag lba sectors fua)) ≡ command write tag lba sectors fua)
+asked_back true tag lba sectors true low some most = (refl, (let e : 8 * tag / 8 % 32 ≡ tag = omega arith in rw (e, sectors_back sectors some most) refl))
+asked_back true tag lba sectors false low some most = (refl, (let e : 8 * tag / 8 % 32 ≡ tag = omega arith in rw (e, sectors_back sectors some most) refl))
+asked_back false tag lba sectors true low some most = (refl, (let e : 8 * tag / 8 % 32 ≡ tag = omega arith in rw (e, sectors_back sectors some most) refl))
+asked_back false tag lba sectors false low some most = (refl, (let e : 8 * tag / 8 % 32 ≡ tag = omega arith in rw (e, sectors_back sectors some most) refl))
 
 -- the command FIS of a window that was written
-pub cfis_back : (tag : ℕ) (work : Work) (ps : List Piece) (w : WindowState) → IsBuilt tag work ps w → cfis w ≡ h2d_bytes (h2d_for (queued_for tag work))
-cfis_back tag work ps w b = sym (take-take 20 (entry_place (length ps)) w.bytes (omega arith)) ∙ ap (take 20) b.table_is
+pub cfis_back : (tag : ℕ) (work : Work) (fua : Bool) (ps : List Piece) (w : WindowState) → IsBuilt tag work fua ps w → cfis w ≡ h2d_bytes (h2d_for (queued_for tag work fua))
+cfis_back tag work fua ps w b = sym (take-take 20 (entry_place (length ps)) w.bytes (omega arith)) ∙ ap (take 20) b.table_is
 
-pub h2d_back : (tag : ℕ) (work : Work) (ps : List Piece) (w : WindowState) → tag < 32 → IsFree work ps → IsBuilt tag work ps w → h2d w ≡ h2d_for (queued_for tag work)
-h2d_back tag work ps w low f b =
-    let fis = h2d_for (queued_for tag work) in
-    ap h2d_at (cfis_back tag work ps w b) ∙ h2d_at-h2d_bytes fis (omega arith) f.lba (omega arith)
+pub h2d_back : (tag : ℕ) (work : Work) (fua : Bool) (ps : List Piece) (w : WindowState) → tag < 32 → IsFree work ps → IsBuilt tag work fua ps w → h2d w ≡ h2d_for (queued_for tag work fua)
+h2d_back tag work fua ps w low f b =
+    let fis = h2d_for (queued_for tag work fua) in
+    ap h2d_at (cfis_back tag work fua ps w b) ∙ h2d_at-h2d_bytes fis (omega arith) f.lba (omega arith)
 
 -- what was asked is what the window says
-pub queued_back : (tag : ℕ) (work : Work) (ps : List Piece) (w : WindowState) → tag < 32 → IsFree work ps → IsBuilt tag work ps w → queued_of w ≡ queued_for tag work
-queued_back tag work ps w low f b =
+pub queued_back : (tag : ℕ) (work : Work) (fua : Bool) (ps : List Piece) (w : WindowState) → tag < 32 → IsFree work ps → IsBuilt tag work fua ps w → queued_of w ≡ queued_for tag work fua
+queued_back tag work fua ps w low f b =
     let some = f.some in
     let most = f.most in
-    ap asked_by (h2d_back tag work ps w low f b) ∙ (asked_back (is_write work) tag (lba_of work) (sectors_of work) low some (omega arith)).1
+    ap asked_by (h2d_back tag work fua ps w low f b) ∙ (asked_back (is_write work) tag (lba_of work) (sectors_of work) fua low some (omega arith)).1
 
 work_back : (tag : ℕ) (work : Work) (xs : List ℕ) → xs ≡ data_for work → cond (is_write work) (Write (lba_of work) xs) (Read (lba_of work) (sectors_of work)) ≡ work
 work_back tag (Read lba sectors) xs e = refl
 work_back tag (Write lba bytes) xs e = ap (λ z. Write lba z) e
 
-pub carries_built : (tag : ℕ) (work : Work) (ps : List Piece) (w : WindowState) → tag < 32 → IsFree work ps → IsBuilt tag work ps w → Carries tag work ps w
-carries_built tag work ps w low f b =
-    let q = queued_back tag work ps w low f b in
-    let list = pieces_back tag work ps w low f b in
+pub carries_built : (tag : ℕ) (work : Work) (fua : Bool) (ps : List Piece) (w : WindowState) → tag < 32 → IsFree work ps → IsBuilt tag work fua ps w → Carries tag work fua ps w
+carries_built tag work fua ps w low f b =
+    let q = queued_back tag work fua ps w low f b in
+    let list = pieces_back tag work fua ps w low f b in
     let moved : text w ≡ data_for work = ap (λ l. joined l w.bytes) list ∙ b.data_is in
     record {
       tag_is = b.tag_is;
@@ -200,12 +202,12 @@ entry_good start first last p aligned even after inside =
     let some = even.some in
     record { even = omega arith; low = refl; odd = omega arith; after = omega arith; within = omega arith }
 
-pub fit_built : (tag : ℕ) (work : Work) (ps : List Piece) (w : WindowState) → tag < 32 → IsFree work ps → IsBuilt tag work ps w → IsFit w
-fit_built tag work ps w low f b =
+pub fit_built : (tag : ℕ) (work : Work) (fua : Bool) (ps : List Piece) (w : WindowState) → tag < 32 → IsFree work ps → IsBuilt tag work fua ps w → IsFit w
+fit_built tag work fua ps w low f b =
     let n = length ps in
-    let hdr = header_back tag work ps w low f b in
-    let q = queued_back tag work ps w low f b in
-    let list = pieces_back tag work ps w low f b in
+    let hdr = header_back tag work fua ps w low f b in
+    let q = queued_back tag work fua ps w low f b in
+    let list = pieces_back tag work fua ps w low f b in
     let count : (header_of w).prdtl ≡ n = ap (λ h. h.prdtl) hdr in
     let after = all_after work ps f in
     let below = all_below work ps f in
@@ -216,9 +218,9 @@ fit_built tag work ps w low f b =
     let few = f.few in
     let some = f.some in
     let most = f.most in
-    let asked = (asked_back (is_write work) tag (lba_of work) (sectors_of work) low some (omega arith)).0 in
-    let fis = h2d_back tag work ps w low f b in
-    let bytes = cfis_back tag work ps w b in
+    let asked = (asked_back (is_write work) tag (lba_of work) (sectors_of work) fua low some (omega arith)).0 in
+    let fis = h2d_back tag work fua ps w low f b in
+    let bytes = cfis_back tag work fua ps w b in
     record {
       header = record {
         cfl = ap (λ h. h.cfl) hdr;
@@ -244,7 +246,7 @@ fit_built tag work ps w low f b =
             let d : Piece = record { at = 0; len = 0 } in
             let inside : i < length ps = omega arith in
             subst (λ t. IsEntry (base t) (table_end w) (length w.bytes) (entry_of w i)) (sym b.tag_is)
-            (subst (λ e. IsEntry (base tag) (table_end w) (length w.bytes) e) (sym (entry_written tag work ps w i d low f b inside))
+            (subst (λ e. IsEntry (base tag) (table_end w) (length w.bytes) e) (sym (entry_written tag work fua ps w i d low f b inside))
             (entry_good (base tag) (table_end w) (length w.bytes) (get_or ps i d) (omega arith) (all_even work ps f i d inside)
             (let e : entry_place n ≤ (get_or ps i d).at = after i d inside in omega arith)
             (let e : end_of (get_or ps i d) ≤ furthest ps = furthest_covers ps i d inside in omega arith)));

@@ -28,11 +28,11 @@ not_broken w WrongTag f b = b.2 f.tag
 not_broken w BadList f b = b.3 f.listed
 
 pub taken_again : IsTakenAgain
-taken_again tag work ps w (Ok c) low none b h =
+taken_again tag work fua ps w (Ok c) low none b h =
     let free = free_from work ps none in
-    let carries = carries_built tag work ps w low free b in
-    (fit_built tag work ps w low free b, carries, (h.1 ∙ queued_back tag work ps w low free b, h.2 ∙ carries.pieces_are))
-taken_again tag work ps w (Err fault) low none b h = absurd (not_broken w fault (fit_built tag work ps w low (free_from work ps none) b) h)
+    let carries = carries_built tag work fua ps w low free b in
+    (fit_built tag work fua ps w low free b, carries, (h.1 ∙ queued_back tag work fua ps w low free b, h.2 ∙ carries.pieces_are))
+taken_again tag work fua ps w (Err fault) low none b h = absurd (not_broken w fault (fit_built tag work fua ps w low (free_from work ps none) b) h)
 
 pub whole_text : HasWholeText
 whole_text w f = length-text w f

@@ -1,5 +1,5 @@
 -- Laws of windows, over the definitions alone.
-use Rattle.std.specs.Prelude.{◌≡◌, ◌≤◌, ◌<◌, ℕ, ◌+◌, ◌*◌, ◌⊎◌, List, false, length, take, drop, None, Result, Ok, Err, IsOkAnd}
+use Rattle.std.specs.Prelude.{◌≡◌, ◌≤◌, ◌<◌, ℕ, ◌+◌, ◌*◌, ◌⊎◌, List, Bool, false, length, take, drop, None, Result, Ok, Err, IsOkAnd}
 use Rattle.ncq_journal.specs.Work.{Work, sectors_of}
 use Rattle.ahci_table.specs.declared.command.Command.{Command}
 use Rattle.ahci_table.specs.declared.fault.TableFault.{TableFault}
@@ -23,8 +23,8 @@ Checks w (Err fault) = Breaks w fault
 -- give of it is that command with these pieces
 abbrev pub IsTakenAgain : Type 0
 IsTakenAgain =
-    (tag : ℕ) (work : Work) (ps : List Piece) (w : WindowState) (r : Result Command TableFault) → tag < 32 → refusal work ps ≡ None → IsBuilt tag work ps w → Checks w r
-    → IsFit w × Carries tag work ps w × IsOkAnd r (λ c. (c.queued ≡ queued_for tag work) × (c.pieces.items ≡ ps))
+    (tag : ℕ) (work : Work) (fua : Bool) (ps : List Piece) (w : WindowState) (r : Result Command TableFault) → tag < 32 → refusal work ps ≡ None → IsBuilt tag work fua ps w → Checks w r
+    → IsFit w × Carries tag work fua ps w × IsOkAnd r (λ c. (c.queued ≡ queued_for tag work fua) × (c.pieces.items ≡ ps))
 
 -- the text of a window that is fit has the bytes of the command's sectors
 abbrev pub HasWholeText : Type 0

@@ -42,32 +42,32 @@ fn header_for<A: Allocator>(tag: u8, op: &Op<A>, pieces: u16) -> [u8; 32]
     header
 }
 
-/// The queued command.
-fn queued_for<A: Allocator>(tag: u8, op: &Op<A>) -> Queued
+/// The queued command, with FUA or without.
+fn queued_for<A: Allocator>(tag: u8, op: &Op<A>, fua: bool) -> Queued
     requires tag { tag < 32 }
     requires lba { lba_of (work_of op.now) < 2 ^ 48 }
     requires some { 1 ≤ sectors_of (work_of op.now) }
     requires most { sectors_of (work_of op.now) ≤ 65536 }
-    ensures { result ≡ queued_for tag (work_of op.now) }
+    ensures { result ≡ queued_for tag (work_of op.now) fua }
 {
     Queued {
         write: op.is_write(),
         tag,
         lba: op.lba(),
         sectors: op.sectors() as u32,
-        fua: false,
+        fua,
     }
 }
 
 /// The bytes of the command FIS.
-fn command_fis<A: Allocator>(tag: u8, op: &Op<A>) -> [u8; 20]
+fn command_fis<A: Allocator>(tag: u8, op: &Op<A>, fua: bool) -> [u8; 20]
     requires tag { tag < 32 }
     requires lba { lba_of (work_of op.now) < 2 ^ 48 }
     requires some { 1 ≤ sectors_of (work_of op.now) }
     requires most { sectors_of (work_of op.now) ≤ 65536 }
-    ensures { result ≡ h2d_bytes (h2d_for (queued_for tag (work_of op.now))) }
+    ensures { result ≡ h2d_bytes (h2d_for (queued_for tag (work_of op.now) fua)) }
 {
-    h2d_bytes(&h2d_of(&queued_for(tag, op)))
+    h2d_bytes(&h2d_of(&queued_for(tag, op, fua)))
 }
 
 /// The PRDT entry of a piece.
@@ -82,7 +82,7 @@ fn entry_for(start: u32, piece: &Piece) -> [u8; 16]
 }
 
 impl<A: Allocator> Window<A> {
-    /// The window of a command whose data are in these pieces: header and command table with all reserved bits 0, a
+    /// The window of a command without FUA whose data are in these pieces: header and command table with all reserved bits 0, a
     /// write's bytes in the pieces, and zeros elsewhere. It ends where the piece that reaches furthest ends.
     ///
     /// # Errors
@@ -94,37 +94,38 @@ impl<A: Allocator> Window<A> {
         pieces: &[Piece],
     ) -> Result<Self, BuildFault>
         requires { tag < 32 }
-        ensures bytes { IfOk result (λ w. IsBuilt tag (work_of op.now) pieces.now w) }
-        ensures carries { IfOk result (λ w. Carries tag (work_of op.now) pieces.now w) }
+        ensures bytes { IfOk result (λ w. IsBuilt tag (work_of op.now) false pieces.now w) }
+        ensures carries { IfOk result (λ w. Carries tag (work_of op.now) false pieces.now w) }
         ensures fit { IfOk result (λ w. IsFit w) }
         ensures fault { MatchOption (refusal (work_of op.now) pieces.now) (IfErr result (λ e. e ≡ BuildFault.OutOfMemory)) (λ f. IsErrAnd result (λ e. e ≡ f)) }
     {
         if let Some(fault) = refusal(op, pieces) {
             return Err(fault);
         }
-        match Self::written(alloc, tag, op, pieces) {
+        match Self::written(alloc, tag, op, false, pieces) {
             Ok(window) => Ok(window),
             Err(refused) => Err(refused.into()),
         }
     }
 
-    /// The window of a command over the default pieces, and the command as `check` answers it.
+    /// The window of a command over the default pieces, with FUA or without, and the command as `check` answers it.
     pub fn over_default_pieces<B: Allocator>(
         alloc: A,
         tag: u8,
         op: &Op<B>,
+        fua: bool,
     ) -> Result<(Self, Command), AllocError>
         requires tag { tag < 32 }
         requires proper { IsProper (work_of op.now) }
-        ensures bytes { IfOk result (λ made. IsBuilt tag (work_of op.now) (default_list (sectors_of (work_of op.now))) made.0) }
-        ensures carries { IfOk result (λ made. Carries tag (work_of op.now) (default_list (sectors_of (work_of op.now))) made.0) }
+        ensures bytes { IfOk result (λ made. IsBuilt tag (work_of op.now) fua (default_list (sectors_of (work_of op.now))) made.0) }
+        ensures carries { IfOk result (λ made. Carries tag (work_of op.now) fua (default_list (sectors_of (work_of op.now))) made.0) }
         ensures fit { IfOk result (λ made. IsFit made.0) }
-        ensures queued { IfOk result (λ made. made.1.queued ≡ queued_for tag (work_of op.now)) }
+        ensures queued { IfOk result (λ made. made.1.queued ≡ queued_for tag (work_of op.now) fua) }
         ensures pieces { IfOk result (λ made. made.1.pieces.items ≡ default_list (sectors_of (work_of op.now))) }
     {
         let pieces = default_pieces(op.sectors() as u32);
-        let window = Self::written(alloc, tag, op, &pieces)?;
-        let queued = queued_for(tag, op);
+        let window = Self::written(alloc, tag, op, fua, &pieces)?;
+        let queued = queued_for(tag, op, fua);
         Ok((window, Command { queued, pieces }))
     }
 
@@ -133,14 +134,15 @@ impl<A: Allocator> Window<A> {
         alloc: A,
         tag: u8,
         op: &Op<B>,
+        fua: bool,
         pieces: &[Piece],
     ) -> Result<Self, AllocError>
         requires tag { tag < 32 }
         requires free { refusal (work_of op.now) pieces.now ≡ None }
-        ensures bytes { IfOk result (λ w. IsBuilt tag (work_of op.now) pieces.now w) }
+        ensures bytes { IfOk result (λ w. IsBuilt tag (work_of op.now) fua pieces.now w) }
     {
         let end = furthest(pieces) as usize;
-        let table = table_for(Vec::with_capacity(alloc, end)?, tag, op, pieces)?;
+        let table = table_for(Vec::with_capacity(alloc, end)?, tag, op, fua, pieces)?;
         Ok(Window {
             tag,
             header: header_for(tag, op, pieces.len() as u16),
@@ -165,6 +167,7 @@ fn table_for<A: Allocator, B: Allocator>(
     bytes: Vec<u8, A>,
     tag: u8,
     op: &Op<B>,
+    fua: bool,
     pieces: &[Piece],
 ) -> Result<Vec<u8, A>, AllocError>
     requires empty { bytes.items ≡ [] }
@@ -174,9 +177,9 @@ fn table_for<A: Allocator, B: Allocator>(
     requires most { sectors_of (work_of op.now) ≤ 65536 }
     requires inside { All (λ p. end_of p ≤ most_bytes) pieces.now }
     requires full { All (λ p. 0 < p.len) pieces.now }
-    ensures { IfOk result (λ v. v.items ≡ table_for tag (work_of op.now) pieces.now) }
+    ensures { IfOk result (λ v. v.items ≡ table_for tag (work_of op.now) fua pieces.now) }
 {
-    let mut table = table_head(bytes, &command_fis(tag, op))?;
+    let mut table = table_head(bytes, &command_fis(tag, op, fua))?;
     let start = base(tag);
     for piece in pieces {
         table.extend_from_slice(&entry_for(start, piece))?;

@@ -2,6 +2,7 @@ mod alone;
 mod choosing;
 mod guest;
 mod heap;
+mod kinds;
 mod making;
 mod refusals;
 mod refused;

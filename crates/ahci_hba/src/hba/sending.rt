@@ -219,7 +219,7 @@ impl<A: Allocator + Copy, S: SectorStore> Hba<A, S> {
         ensures err { IfErr result (λ e. (e ≡ HbaFault.OutOfMemory) × (self.new ≡ record self.old { slots = slice_set self.old.slots slot (Some (Fetched task list.items bytes.items)) })) }
     {
         let (op, left) = asked(self.alloc, &task, bytes);
-        match self.port.submit_tested(slot.number(), op) {
+        match self.port.submit_tested(slot.number(), op, false) {
             Ok(_) => {
                 self.put(slot, Command::Sent(task, list));
                 Ok(())

@@ -41,7 +41,7 @@ impl<A: Allocator, S: SectorStore> Port<A, S> {
 }
 
 impl<A: Allocator + Clone, S: SectorStore> Port<A, S> {
-    /// Submits a command: its window is laid out over the default pieces and issued as by `issue`, and the command goes into the
+    /// Submits a command without FUA: its window is laid out over the default pieces and issued as by `issue`, and the command goes into the
     /// journal as it is. The answer is the request's number.
     ///
     /// # Errors
@@ -49,35 +49,41 @@ impl<A: Allocator + Clone, S: SectorStore> Port<A, S> {
     /// window, for the pages that a write goes to, or for the request's entries was refused. The command comes back as it was.
     pub fn submit(&mut self, tag: u8, op: Op<A>) -> Result<u64, (Op<A>, SubmitFault)>
         ensures number { IfOk result (λ n. n ≡ next_number self.old) }
-        ensures submitted { OnOk result (IsSubmitted tag (work_of op) self.old self.new) }
+        ensures submitted { OnOk result (IsSubmitted tag (work_of op) false self.old self.new) }
         ensures fault { MatchOption (op_refusal self.old tag (work_of op)) (IfErr result (λ e. e.1 ≡ SubmitFault.Issue IssueFault.OutOfMemory)) (λ fault. IsErrAnd result (λ e. e.1 ≡ fault)) }
         ensures err { IfErr result (λ e. (e.0 ≡ op) × (self.new ≡ self.old)) }
     {
         if let Some(fault) = self.op_fault(tag, &op) {
             return Err((op, fault));
         }
-        match self.submit_tested(tag, op) {
+        match self.submit_tested(tag, op, false) {
             Ok(number) => Ok(number),
             Err((op, refused)) => Err((op, SubmitFault::Issue(refused.into()))),
         }
     }
 
-    /// Submits a command of whole sectors that `submit_fault` has no fault with, as `submit` does.
+    /// Submits a command of whole sectors that `submit_fault` has no fault with, as `submit` does; with FUA, if `fua` says so, it is the
+    /// bit of the command FIS (ACS-3, READ and WRITE FPDMA QUEUED, Device bit 7).
     ///
     /// # Errors
     /// The command comes back where room for the window or for the request's entries was refused.
-    pub fn submit_tested(&mut self, tag: u8, op: Op<A>) -> Result<u64, (Op<A>, AllocError)>
+    pub fn submit_tested(
+        &mut self,
+        tag: u8,
+        op: Op<A>,
+        fua: bool,
+    ) -> Result<u64, (Op<A>, AllocError)>
         requires whole { is_ragged (work_of op) ≡ false }
         requires free { submit_refusal self.old tag (lba_of (work_of op)) (sectors_of (work_of op)) ≡ None }
         ensures number { IfOk result (λ n. n ≡ next_number self.old) }
-        ensures submitted { OnOk result (IsSubmitted tag (work_of op) self.old self.new) }
+        ensures submitted { OnOk result (IsSubmitted tag (work_of op) fua self.old self.new) }
         ensures err { IfErr result (λ e. (e.0 ≡ op) × (self.new ≡ self.old)) }
     {
         let alloc = match self.alloc.clone() {
             Ok(alloc) => alloc,
             Err(refused) => return Err((op, refused)),
         };
-        let (window, command) = match Window::over_default_pieces(alloc, tag, &op) {
+        let (window, command) = match Window::over_default_pieces(alloc, tag, &op, fua) {
             Ok(made) => made,
             Err(refused) => return Err((op, refused)),
         };

@@ -10,4 +10,4 @@ use Rattle.ahci_table.proofs.building.table_for.Given as goal
 
 abbrev pub invariant-loop-piece : goal.invariant-loop-piece
 invariant-loop-piece g l =
-    l.table.items ≡ h2d_bytes (h2d_for (queued_for l.tag (work_of l.op))) ++ replicate 108 0 ++ flat_map (entry_for (base l.tag)) (take l.piece-index l.pieces)
+    l.table.items ≡ h2d_bytes (h2d_for (queued_for l.tag (work_of l.op) l.fua)) ++ replicate 108 0 ++ flat_map (entry_for (base l.tag)) (take l.piece-index l.pieces)

@@ -21,7 +21,7 @@ returns-clause-carries g c =
     let ps = default_list (sectors_of work) in
     let list : c.deref.result.now ≡ ps = c.deref.ensures.0 ∙ c.default_pieces-pieces.ensures ∙ ap default_list c.sectors.ensures in
     let w = c.in_ok-window.window in
-    carries_built c.args.tag work ps w c.requires.tag (free_from work ps (proper_serves work c.requires.proper)) (subst (λ l. IsBuilt c.args.tag work l w) list c.in_ok-window.ensures.bytes)
+    carries_built c.args.tag work c.args.fua ps w c.requires.tag (free_from work ps (proper_serves work c.requires.proper)) (subst (λ l. IsBuilt c.args.tag work c.args.fua l w) list c.in_ok-window.ensures.bytes)
 
 pub returns-clause-fit : goal.returns-clause-fit
 returns-clause-fit g c =
@@ -29,4 +29,4 @@ returns-clause-fit g c =
     let ps = default_list (sectors_of work) in
     let list : c.deref.result.now ≡ ps = c.deref.ensures.0 ∙ c.default_pieces-pieces.ensures ∙ ap default_list c.sectors.ensures in
     let w = c.in_ok-window.window in
-    fit_built c.args.tag work ps w c.requires.tag (free_from work ps (proper_serves work c.requires.proper)) (subst (λ l. IsBuilt c.args.tag work l w) list c.in_ok-window.ensures.bytes)
+    fit_built c.args.tag work c.args.fua ps w c.requires.tag (free_from work ps (proper_serves work c.requires.proper)) (subst (λ l. IsBuilt c.args.tag work c.args.fua l w) list c.in_ok-window.ensures.bytes)
