@@ -184,10 +184,12 @@ typedef enum ahci_order {
     AHCI_ORDER_DRAWN = 2    /* the tag that a draw falls on: the lowest is number 0, and the draw counts modulo how many there are */
 } ahci_order;
 
-/* What a command does. */
+/* What a command does. With FUA (ACS-3, READ and WRITE FPDMA QUEUED) the device of its command FIS has bit 7. */
 typedef enum ahci_kind {
     AHCI_READ = 0,
-    AHCI_WRITE = 1
+    AHCI_WRITE = 1,
+    AHCI_READ_FUA = 2,
+    AHCI_WRITE_FUA = 3
 } ahci_kind;
 
 /* How far a tag's command is. */
@@ -345,7 +347,7 @@ typedef struct ahci_fis {
 typedef struct ahci_command {
     uint64_t lba;
     uint32_t sectors;
-    uint32_t kind;   /* ahci_kind */
+    uint32_t kind;   /* AHCI_READ or AHCI_WRITE, with FUA or without */
     uint32_t tag;
     uint32_t pieces; /* how many entries its PRDT has */
 } ahci_command;
@@ -548,8 +550,8 @@ uint32_t ahci_port_received(ahci_port *port, uint8_t *out, size_t out_bytes);
    AHCI_BAD_LIST; AHCI_OUT_OF_MEMORY if there is no room for the request. */
 uint32_t ahci_port_issue(ahci_port *port, uint32_t tag, const uint8_t *header, size_t header_bytes, const uint8_t *memory, size_t memory_bytes, uint64_t *number);
 
-/* Issues a read or a write of `sectors` sectors from `lba` on, in a window that the library lays out: pieces of 4,096 bytes
-   for up to 256 sectors, and of 1 MiB for more. A write has 512 * sectors bytes of payload; a read's payload is ignored.
+/* Issues a read or a write (`kind`: ahci_kind) of `sectors` sectors from `lba` on, in a window that the library lays out: pieces of 4,096
+   bytes for up to 256 sectors, and of 1 MiB for more. A write has 512 * sectors bytes of payload; a read's payload is ignored.
    AHCI_BAD_TAG, AHCI_BAD_KIND, AHCI_BAD_COUNT, AHCI_BAD_LBA, then as ahci_port_issue. */
 uint32_t ahci_port_submit(ahci_port *port, uint32_t tag, uint32_t kind, uint64_t lba, uint32_t sectors, const uint8_t *payload, size_t payload_bytes, uint64_t *number);
 

@@ -68,20 +68,21 @@ static void end_writes(void)
 static void submit(void)
 {
     static uint8_t data[MOST * AHCI_SECTOR_BYTES];
-    uint32_t tag = byte() % 34, kind = byte() % 3, count = byte() % (MOST + 1);
+    uint32_t tag = byte() % 34, kind = byte() % 5, count = byte() % (MOST + 1);
     uint64_t lba = byte() % 20, number = 0;
     if (lba == 19)
         lba = (uint64_t)1 << 48;
     uint8_t fill = byte();
     memset(data, fill, sizeof data);
-    uint32_t wanted = tag >= 32 ? AHCI_BAD_TAG : kind > 1 ? AHCI_BAD_KIND : !count ? AHCI_BAD_COUNT : lba >> 48 ? AHCI_BAD_LBA
+    uint32_t wanted = tag >= 32 ? AHCI_BAD_TAG : kind > AHCI_WRITE_FUA ? AHCI_BAD_KIND : !count ? AHCI_BAD_COUNT : lba >> 48 ? AHCI_BAD_LBA
         : halted ? AHCI_HALTED : tag >= depth ? AHCI_NO_SUCH_TAG : tags[tag].phase != AHCI_PHASE_FREE ? AHCI_SLOT_OWNED : AHCI_OK;
-    CHECK(ahci_port_submit(&port, tag, kind, lba, count, data, kind == AHCI_WRITE ? count * AHCI_SECTOR_BYTES : 0, &number) == wanted);
+    bool writes = kind == AHCI_WRITE || kind == AHCI_WRITE_FUA;
+    CHECK(ahci_port_submit(&port, tag, kind, lba, count, data, writes ? count * AHCI_SECTOR_BYTES : 0, &number) == wanted);
     if (wanted != AHCI_OK)
         return;
     CHECK(number == next);
     end_writes();
-    tags[tag] = (struct tag){ .phase = AHCI_PHASE_ISSUED, .kind = kind, .count = count, .lba = lba, .number = next++, .fill = fill };
+    tags[tag] = (struct tag){ .phase = AHCI_PHASE_ISSUED, .kind = writes ? AHCI_WRITE : AHCI_READ, .count = count, .lba = lba, .number = next++, .fill = fill };
 }
 
 static void fails(struct tag *it, uint32_t phase, uint32_t error, uint64_t at)

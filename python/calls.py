@@ -63,7 +63,7 @@ def failing_queue() -> None:
         assert port.state().first == port.state().next == 10 and port.copy(7) == b"\7" * 512
         header, memory = raw_read(3, 7)
         assert ahci.window_check(3, header, memory) == Command(lba=7, sectors=1, kind=Kind.READ, tag=3, pieces=1)
-        assert (port.read(2, 2, 2), port.write(1, 5, b"\xbb" * 512), port.issue(3, header, memory)) == (10, 11, 12)
+        assert (port.read(2, 2, 2, fua=True), port.write(1, 5, b"\xbb" * 512, fua=True), port.issue(3, header, memory)) == (10, 11, 12)
         assert port.tag_sets() == TagSets(issued=0b1110, accepted=0, held=0)
         assert port.accept(2) == Stepped(first=13, count=1, did=Did.ACCEPTED) and port.accept(1) == Stepped(14, 1, Did.ACCEPTED)
         assert port.tag_sets() == TagSets(0b1000, 0b0110, 0) and ahci.tags_of(0b0110) == [1, 2] and ahci.tags_of(1 << 31 | 1) == [0, 31]

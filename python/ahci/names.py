@@ -66,10 +66,12 @@ class Order(enum.IntEnum):
 
 
 class Kind(enum.IntEnum):
-    """What a command does (ahci_kind)."""
+    """What a command does. With FUA (ACS-3, READ and WRITE FPDMA QUEUED) the device of its command FIS has bit 7 (ahci_kind)"""
 
     READ = 0
     WRITE = 1
+    READ_FUA = 2
+    WRITE_FUA = 3
 
 
 class Phase(enum.IntEnum):

@@ -78,13 +78,13 @@ class Port(Owner):
         """Issues the command of a window. Returns the request's number."""
         return self._number("issue", u64, fits(tag, 32, "tag"), *given(header), *given(memory))
 
-    def read(self, tag: int, lba: int, sectors: int) -> int:
-        """Issues a read. Returns the request's number."""
-        return self._number("submit", u64, fits(tag, 32, "tag"), Kind.READ, fits(lba, 64, "lba"), fits(sectors, 32, "sectors"), b"", 0)
+    def read(self, tag: int, lba: int, sectors: int, fua: bool = False) -> int:
+        """Issues a read, with FUA or without. Returns the request's number."""
+        return self._number("submit", u64, fits(tag, 32, "tag"), Kind.READ_FUA if fua else Kind.READ, fits(lba, 64, "lba"), fits(sectors, 32, "sectors"), b"", 0)
 
-    def write(self, tag: int, lba: int, data: Bytes) -> int:
-        """Issues a write of whole sectors. Returns the request's number."""
-        return self._number("submit", u64, fits(tag, 32, "tag"), Kind.WRITE, fits(lba, 64, "lba"), memoryview(data).nbytes // 512, *given(data))
+    def write(self, tag: int, lba: int, data: Bytes, fua: bool = False) -> int:
+        """Issues a write of whole sectors, with FUA or without. Returns the request's number."""
+        return self._number("submit", u64, fits(tag, 32, "tag"), Kind.WRITE_FUA if fua else Kind.WRITE, fits(lba, 64, "lba"), memoryview(data).nbytes // 512, *given(data))
 
     def _stepped(self, name: str, *arguments: object) -> Stepped:
         did = SteppedStruct()
