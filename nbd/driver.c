@@ -3,7 +3,6 @@
 #include "device.h"
 #include "generator.h"
 #include "say.h"
-#include "window.h"
 
 #include <errno.h>
 #include <inttypes.h>
@@ -113,13 +112,9 @@ int driver_submit(struct driver *driver, struct request *mine) {
 /* Issues the command of a request by a tag, and returns a status. */
 static uint32_t issue_by(struct driver *driver, uint32_t tag, struct request *it, uint64_t *number) {
     size_t count = (size_t)it->sectors * AHCI_SECTOR_BYTES;
-    uint8_t header[AHCI_HEADER_BYTES];
     if (it->kind == REQUEST_READ)
         return ahci_port_submit(&driver->port, tag, AHCI_READ, it->lba, it->sectors, nothing, 0, number);
-    if (!it->window)
-        return ahci_port_submit(&driver->port, tag, AHCI_WRITE, it->lba, it->sectors, it->from, count, number);
-    window_fill(header, it->window, tag, it->lba, it->sectors, it->fua);
-    return ahci_port_issue(&driver->port, tag, header, sizeof header, it->window, window_bytes(it->sectors), number);
+    return ahci_port_submit(&driver->port, tag, it->fua ? AHCI_WRITE_FUA : AHCI_WRITE, it->lba, it->sectors, it->from, count, number);
 }
 
 static void issue(struct driver *driver, struct request *it) {

@@ -6,7 +6,6 @@
 #include "driver.h"
 #include "say.h"
 #include "settings.h"
-#include "window.h"
 
 #include <errno.h>
 #include <inttypes.h>
@@ -16,7 +15,6 @@
 #include <signal.h>
 #include <stdio.h>
 #include <stdlib.h>
-#include <string.h>
 
 #define THREAD_MODEL NBDKIT_THREAD_MODEL_PARALLEL
 
@@ -129,10 +127,8 @@ static bool is_whole(uint32_t count, uint64_t offset) {
 static int submit_parts(struct request request, uint32_t sectors) {
     int outcome = 0;
     while (sectors && !outcome) {
-        request.sectors = sectors < WINDOW_SECTORS ? sectors : WINDOW_SECTORS;
+        request.sectors = sectors < REQUEST_MOST_SECTORS ? sectors : REQUEST_MOST_SECTORS;
         size_t bytes = (size_t)request.sectors * AHCI_SECTOR_BYTES;
-        if (request.window)
-            memcpy(request.window + WINDOW_DATA, request.from, bytes);
         outcome = driver_submit(&driver, &request);
         request.lba += request.sectors;
         if (request.kind == REQUEST_READ)
@@ -159,18 +155,12 @@ static int ahci_pread(void *handle, void *bytes, uint32_t count, uint64_t offset
     return ended(submit_parts(request, count / AHCI_SECTOR_BYTES));
 }
 
-/* A write with FUA is issued in a window of its own, since only its command FIS has that bit. */
 static int ahci_pwrite(void *handle, const void *bytes, uint32_t count, uint64_t offset, uint32_t flags) {
     (void)handle;
     if (!is_whole(count, offset))
         return -1;
-    uint32_t sectors = count / AHCI_SECTOR_BYTES;
     struct request request = {.kind = REQUEST_WRITE, .fua = flags & NBDKIT_FLAG_FUA, .lba = offset / AHCI_SECTOR_BYTES, .from = bytes};
-    if (request.fua && !(request.window = malloc(window_bytes(sectors < WINDOW_SECTORS ? sectors : WINDOW_SECTORS))))
-        return ended(ENOMEM);
-    int outcome = submit_parts(request, sectors);
-    free(request.window);
-    return ended(outcome);
+    return ended(submit_parts(request, count / AHCI_SECTOR_BYTES));
 }
 
 static int ahci_flush(void *handle, uint32_t flags) {

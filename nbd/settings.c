@@ -4,7 +4,7 @@
 #include "record.h"
 #include "rules.h"
 #include "say.h"
-#include "window.h"
+#include "request.h"
 
 #include <ahci.h>
 #include <inttypes.h>
@@ -136,7 +136,7 @@ int settings_take(struct settings *settings, const char *key, const char *value)
 
 /* Parameters that mean nothing without another one, or that are too small beside it. */
 static int look_at_pairs(const struct settings *settings) {
-    uint64_t least = record_least_limit(settings->sectors, WINDOW_SECTORS);
+    uint64_t least = record_least_limit(settings->sectors, REQUEST_MOST_SECTORS);
     if (settings->sync == SYNC_FLUSH && !settings->mapped.image.path)
         say_of("sync", "flush", "there is no image= to write");
     else if (settings->record_limit && !settings->record)
