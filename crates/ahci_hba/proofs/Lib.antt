@@ -9,6 +9,7 @@ pub mod LawLemmas
 pub mod LogLemmas
 pub mod MarkingLemmas
 pub mod NewLemmas
+pub mod OutlookLemmas
 pub mod PluggingLemmas
 pub mod RecoveringLemmas
 pub mod SendingLemmas

@@ -7,6 +7,7 @@ pub mod Keeping
 pub mod States
 pub mod Moving
 pub mod Queueing
+pub mod Outlook
 pub mod Dropping
 pub mod PoweringOn
 pub mod Delivering

@@ -11,6 +11,7 @@ mod fault;
 mod hba;
 mod last_fis;
 pub mod laws;
+mod outlook;
 mod step;
 mod transfer;
 mod want;

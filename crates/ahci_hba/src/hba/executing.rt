@@ -1,7 +1,8 @@
 //! What the device does with a command that is not queued (ACS-3, by the commands' titles).
 
 ghost use Rattle.std.specs.Prelude.{◌≡◌, ◌-◌, ◌<◌, ◌^◌, true, false, None, IfErr, IfSome, OnErr, OnOk, slice_set};
-ghost use Rattle.ahci_hba.specs.Queueing.{command_at, list_in, task_in};
+ghost use Rattle.std.specs.List.{list_any};
+ghost use Rattle.ahci_hba.specs.Queueing.{command_at, has_queued, list_in, task_in};
 ghost use Rattle.ahci_hba.specs.Stepping.{fault_if, is_answered, is_answered_at, may_execute};
 ghost use Rattle.ahci_port.specs.{Faults.{plain_refusal}, PortView.{sectors_in}, Steps.{LacksRoom}};
 ghost use Rattle.ahci_hba.specs.Failing.{concluded, moves_some};
@@ -135,13 +136,12 @@ fn reads_error_log(action: &Action) -> bool
 
 impl<A: Allocator, S: SectorStore> Hba<A, S> {
     /// Why the device aborts a command that is not queued: queued ones are outstanding, or log 10h is to be read, but for a command that reads it, or it is
-    /// READ or WRITE MULTIPLE and no block size is set.
-    pub(super) fn is_aborted(&self, action: &Action) -> bool
+    /// READ or WRITE MULTIPLE and no block size is set. `queueing` is what `is_queueing` answers.
+    pub(super) fn is_aborted(&self, action: &Action, queueing: bool) -> bool
+        requires { queueing ≡ list_any has_queued self.now.slots }
         ensures { result ≡ is_aborted self.now action.now }
     {
-        self.is_queueing()
-            || (self.is_failed() && !reads_error_log(action))
-            || self.has_no_blocks(action)
+        queueing || (self.is_failed() && !reads_error_log(action)) || self.has_no_blocks(action)
     }
 
     /// Whether a slot has a command that is read and not queued.
@@ -157,23 +157,24 @@ impl<A: Allocator, S: SectorStore> Hba<A, S> {
         }
     }
 
-    /// Whether the device answers a command itself: it aborts it, or the port moves no sectors for it.
-    fn is_answered(&self, action: &Action) -> bool
+    /// Whether the device answers a command itself: it aborts it, or the port moves no sectors for it. `queueing` is what `is_queueing` answers.
+    pub(super) fn is_answered(&self, action: &Action, queueing: bool) -> bool
+        requires { queueing ≡ list_any has_queued self.now.slots }
         ensures { result ≡ is_answered self.now action.now }
     {
         match action {
             Action::Queue(queued) => self.is_failed() || !self.has_tag(queued),
             Action::Sectors { span, .. } => {
-                self.is_aborted(action) || !self.is_on(span) || self.marked_for(action).is_some()
+                self.is_aborted(action, queueing)
+                    || !self.is_on(span)
+                    || self.marked_for(action).is_some()
             }
             Action::Page(Page::Identify, _) | Action::Flush(_) => {
-                self.is_aborted(action) || self.port.plain_fault().is_none()
+                self.is_aborted(action, queueing) || self.port.plain_fault().is_none()
             }
             Action::Page(Page::Log(Log::Pages(_, _) | Log::Host(_)) | Page::Disk(_), _) => true,
-            Action::Page(Page::Log(Log::QueuedError), _) => {
-                self.is_queueing() || !self.port.halted()
-            }
-            Action::Store(store, _) => self.is_aborted(action) || self.takes_data(store),
+            Action::Page(Page::Log(Log::QueuedError), _) => queueing || !self.port.halted(),
+            Action::Store(store, _) => self.is_aborted(action, queueing) || self.takes_data(store),
             Action::Reply(_) => true,
             Action::Control { .. } => false,
             Action::Abort => true,
@@ -193,7 +194,9 @@ impl<A: Allocator, S: SectorStore> Hba<A, S> {
     {
         match &self.slots[slot.index()] {
             Some(slot) => match &slot.command {
-                Command::Fetched(task, _, _) => self.is_answered(&action_of(task)),
+                Command::Fetched(task, _, _) => {
+                    self.is_answered(&action_of(task), self.is_queueing())
+                }
                 Command::Sent(_, _) => false,
             },
             None => false,
@@ -361,7 +364,7 @@ impl<A: Allocator + Copy, S: SectorStore> Hba<A, S> {
             return Err(HbaFault::NotReady);
         }
         let action = action_of(&self.task_in(slot));
-        if self.is_aborted(&action) {
+        if self.is_aborted(&action, self.is_queueing()) {
             self.abort(slot);
             return Ok(());
         }

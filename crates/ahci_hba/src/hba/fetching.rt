@@ -1,9 +1,10 @@
 //! How a command is taken from the command list (AHCI 1.3.1, section 5.3).
 
-ghost use Rattle.std.specs.Prelude.{◌≡◌, ◌<◌, ◌≤◌, false, true, IfErr, OnErr, OnOk};
+ghost use Rattle.std.specs.Prelude.{◌≡◌, ◌<◌, ◌≤◌, ◌+◌, ◌&&◌, false, true, IfErr, OnErr, OnOk};
 ghost use Rattle.std.specs.List.{list_any};
 ghost use Rattle.hba_command.specs.declared.task.Task.{Task};
 ghost use Rattle.ahci_hba.specs.Queueing.{comes_under_queued, command_at, fetching, has_alone, has_queued, distance, distance_of, is_alone, is_failed, is_idle, is_listening, is_off};
+ghost use Rattle.ahci_hba.specs.Outlook.{IsNearest, Reaches, comes_behind, is_within, nearer};
 ghost use Rattle.ahci_hba.specs.Queueing.{is_overtaken, is_ready, is_running, is_sent, may_fetch, waits};
 
 use crate::command::{Command, Listed};
@@ -81,6 +82,26 @@ fn distance(ncs: u8, first: u8, slot: u8) -> u32
     (u32::from(slot) + ncs).saturating_sub(u32::from(first)) % ncs
 }
 
+/// The smaller of two distances, of which the first need not be there.
+fn nearer(nearest: Option<u32>, distance: u32) -> u32
+    ensures { result ≡ nearer nearest distance }
+{
+    match nearest {
+        None => distance,
+        Some(nearest) => nearest.min(distance),
+    }
+}
+
+/// Whether a slot at a distance comes behind the nearest one, if there is one.
+fn comes_behind(nearest: Option<u32>, distance: u32) -> bool
+    ensures { result ≡ comes_behind nearest distance }
+{
+    match nearest {
+        None => false,
+        Some(nearest) => nearest < distance,
+    }
+}
+
 impl<A: Allocator, S: SectorStore> Hba<A, S> {
     /// Whether the port processes its command list: ST is 1, nothing has failed, and the link is up.
     pub(super) fn is_running(&self) -> bool
@@ -129,12 +150,67 @@ impl<A: Allocator, S: SectorStore> Hba<A, S> {
         distance(capabilities.ncs(), self.registers.first_slot(), slot)
     }
 
+    /// How many slots behind the one with the highest priority the nearest slot is that waits, of those below a slot and this one.
+    fn nearest_with(&self, nearest: Option<u32>, slot: u8) -> Option<u32>
+        requires low { slot < 32 }
+        requires below { IsNearest self.now slot nearest }
+        ensures { IsNearest self.now (slot + 1) result }
+    {
+        if self.waits(slot) {
+            Some(nearer(nearest, self.distance(slot)))
+        } else {
+            nearest
+        }
+    }
+
+    /// How many slots behind the one with the highest priority the nearest slot is that waits; nothing if none does.
+    fn nearest_waiting(&self) -> Option<u32>
+        ensures { IsNearest self.now 32 result }
+    {
+        let mut nearest = None;
+        for slot in 0..SLOTS as u8 {
+            nearest = self.nearest_with(nearest, slot);
+        }
+        nearest
+    }
+
     /// Whether another slot that waits has a higher priority than a slot.
     fn is_overtaken(&self, slot: Slot) -> bool
         ensures { result ≡ is_overtaken self.now slot }
     {
-        let own = self.distance(slot.number());
-        (0..SLOTS as u8).any(|other| self.waits(other) && self.distance(other) < own)
+        comes_behind(self.nearest_waiting(), self.distance(slot.number()))
+    }
+
+    /// How many slots behind the one with the highest priority a slot may be whose command is read now; nothing if no command may be read. None that waits
+    /// is nearer.
+    pub(super) fn reach(&self) -> Option<u32>
+        requires listening { is_listening self.now ≡ true }
+        ensures { Reaches self.now result }
+    {
+        if !self.registers.is_free() {
+            return None;
+        }
+        if self.registers.ci() == 0 {
+            return None;
+        }
+        let Some(nearest) = self.nearest_waiting() else {
+            return None;
+        };
+        if self.is_busy_alone() {
+            return None;
+        }
+        Some(nearest)
+    }
+
+    /// Whether the slot of a number waits, and is no farther behind the one with the highest priority than this.
+    pub(super) fn waits_within(&self, slot: u8, reach: Option<u32>) -> bool
+        requires { slot < 32 }
+        ensures { result ≡ (waits self.now slot && is_within reach (distance_of self.now.registers.port slot)) }
+    {
+        match reach {
+            None => false,
+            Some(reach) => self.waits(slot) && self.distance(slot) <= reach,
+        }
     }
 
     /// Whether the device is busy with a command that is not queued.

@@ -1,8 +1,9 @@
 //! How a driver reads the log of a failed queued command (AHCI 1.3.1, section 6.2.2; ACS-3, "NCQ Command Error log").
 
-ghost use Rattle.std.specs.Prelude.{◌≡◌, ◌<◌, ◌≤◌, true, [], IfErr, IfOk, OnErr, OnOk, vec_capacity};
+ghost use Rattle.std.specs.Prelude.{◌≡◌, ◌<◌, ◌≤◌, ◌&&◌, not, true, [], IfErr, IfOk, OnErr, OnOk, is_some, vec_capacity};
+ghost use Rattle.std.specs.List.{list_any};
 ghost use Rattle.ncq_journal.specs.Halted.{halted};
-ghost use Rattle.ahci_hba.specs.Queueing.{command_at};
+ghost use Rattle.ahci_hba.specs.Queueing.{command_at, has_queued};
 ghost use Rattle.ahci_hba.specs.Stepping.{fault_if, may_recover};
 ghost use Rattle.ahci_hba.specs.Recovering.{CollectsFailed, ReadsErrorLog, error_log_in, error_log_of, error_page};
 
@@ -55,6 +56,14 @@ impl<A: Allocator, S: SectorStore> Hba<A, S> {
             },
             None => None,
         }
+    }
+
+    /// Whether a command reads the log of failed queued commands, one has failed, and no queued command is outstanding. `queueing` is what `is_queueing` answers.
+    pub(super) fn recovers_by(&self, action: &Action, queueing: bool) -> bool
+        requires { queueing ≡ list_any has_queued self.now.slots }
+        ensures { result ≡ (is_some (error_log_of action.now) && (halted self.now.port.past && not (list_any has_queued self.now.slots))) }
+    {
+        error_log_of(action).is_some() && self.port.halted() && !queueing
     }
 
     /// Whether the device reads the log of failed queued commands for the command of a slot now: one has failed, and no queued command

@@ -57,7 +57,7 @@ fn is_due(signature: Signature) -> bool
 }
 
 /// What the device control register says of SRST; nothing of a command.
-fn control_of(action: &Action) -> Option<bool>
+pub(super) fn control_of(action: &Action) -> Option<bool>
     ensures { result ≡ control_of action.now }
 {
     match action {

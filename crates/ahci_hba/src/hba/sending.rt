@@ -1,10 +1,11 @@
 //! How a queued command goes to the port.
 
-ghost use Rattle.std.specs.Prelude.{◌≡◌, ◌<◌, true, None, Some, IfErr, OnOk, if◌then◌else◌, slice_set};
+ghost use Rattle.std.specs.Prelude.{◌≡◌, ◌<◌, ◌&&◌, not, true, None, Some, IfErr, OnOk, if◌then◌else◌, is_some, slice_set};
+ghost use Rattle.std.specs.List.{list_any};
 ghost use Rattle.ncq_journal.specs.Work.{Read, Write, work_of};
 ghost use Rattle.ahci_port.specs.Faults.{op_refusal};
 ghost use Rattle.ahci_hba.specs.HbaView.{Fetched, command_of};
-ghost use Rattle.ahci_hba.specs.Queueing.{IsSent, Sends, asked_for, command_at, goes_to_port, has_no_blocks, has_tag, is_fetched, is_on, moves_sectors, put_back, work_for, work_of_action};
+ghost use Rattle.ahci_hba.specs.Queueing.{IsSent, Sends, asked_for, command_at, goes_to_port, has_no_blocks, has_queued, has_tag, is_fetched, is_on, moves_sectors, put_back, work_for, work_of_action};
 ghost use Rattle.ahci_hba.specs.Stepping.{fault_if, may_send, work_at};
 
 use crate::command::{Command, Listed};
@@ -123,15 +124,16 @@ impl<A: Allocator, S: SectorStore> Hba<A, S> {
     }
 
     /// Whether the port moves sectors for a command: a queued one whose tag the device has, or one of sectors of the disk while no queued one is
-    /// outstanding, whose blocks have a size, and that reads no marked sector.
-    fn moves_sectors(&self, action: &Action) -> bool
+    /// outstanding, whose blocks have a size, and that reads no marked sector. `queueing` is what `is_queueing` answers.
+    fn moves_sectors(&self, action: &Action, queueing: bool) -> bool
+        requires { queueing ≡ list_any has_queued self.now.slots }
         ensures { result ≡ moves_sectors self.now action.now }
     {
         match action {
             Action::Queue(queued) => self.has_tag(queued),
             Action::Sectors { span, .. } => {
                 self.is_on(span)
-                    && !self.is_queueing()
+                    && !queueing
                     && !self.has_no_blocks(action)
                     && self.marked_for(action).is_none()
             }
@@ -148,7 +150,9 @@ impl<A: Allocator, S: SectorStore> Hba<A, S> {
     {
         match &self.slots[slot.index()] {
             Some(slot) => match &slot.command {
-                Command::Fetched(task, _, _) => self.moves_sectors(&action_of(task)),
+                Command::Fetched(task, _, _) => {
+                    self.moves_sectors(&action_of(task), self.is_queueing())
+                }
                 Command::Sent(_, _) => false,
             },
             None => false,
@@ -193,6 +197,23 @@ impl<A: Allocator, S: SectorStore> Hba<A, S> {
             },
             None => self.port.submit_fault(slot.number(), 0, 0),
         }
+    }
+
+    /// Whether a command that was read for a slot goes to the port once the device may move: the device aborts nothing for a collision, the port moves
+    /// sectors for the command, and it takes it. `queueing` is what `is_queueing` answers.
+    pub(super) fn is_taken_by_port(
+        &self,
+        slot: Slot,
+        action: &Action,
+        bytes: &[u8],
+        queueing: bool,
+    ) -> bool
+        requires { queueing ≡ list_any has_queued self.now.slots }
+        ensures { result ≡ (not (is_some self.now.device.collision) && moves_sectors self.now action.now && not (is_some (op_refusal self.now.port slot (work_of_action action.now bytes.now)))) }
+    {
+        self.device.collision.is_none()
+            && self.moves_sectors(action, queueing)
+            && action_fault(&self.port, slot, action, bytes).is_none()
     }
 
     /// Whether the command of a slot goes to the port now: `goes_to_port` holds, the port takes it, and the device may move and aborts nothing for a collision.

@@ -80,7 +80,7 @@ impl<A: Allocator, S: SectorStore> Hba<A, S> {
         ensures { result ≡ trim_range self.now slot }
     {
         let action = action_of(&self.task_in(slot));
-        if !self.may_execute(slot) || self.is_aborted(&action) {
+        if !self.may_execute(slot) || self.is_aborted(&action, self.is_queueing()) {
             return None;
         }
         self.zeroed_by(slot, &action)
