@@ -2,4 +2,3 @@ pub mod Walks
 pub mod OverLemmas
 pub mod PluggingLemmas
 pub mod SteppingLemmas
-pub mod LookingLemmas

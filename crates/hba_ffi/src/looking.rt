@@ -9,7 +9,7 @@ ghost use Rattle.hba_ffi.specs.Looking.{AnswersLeft, IsLook, Says, length_moved,
 
 use crate::flat::FlatHba;
 use ahci_ffi::{FlatEntry, FlatState, Status};
-use ahci_hba::{Hba, Slot, Step, Want};
+use ahci_hba::{Hba, Step, Want};
 use ncq_journal::Journal;
 use port_refusal::Refusal;
 use sector_store::{SectorStore, Sectors};
@@ -71,28 +71,16 @@ fn step_number(step: Option<Step>) -> u8
     }
 }
 
-/// By slot, the number of the next step with its command: none while the driver's memory is read or written.
+/// By slot, the number of the next step with its command.
 fn next_steps<A: Allocator, S: SectorStore>(hba: &Hba<A, S>) -> [u8; 32]
     ensures { (slot : ℕ) → slot < 32 → slice_index_or result slot 0 ≡ step_number (next_step hba.now slot) }
 {
-    match hba.want() {
-        Want::Nothing => steps_by_slot(hba),
-        Want::Read | Want::Write => [0; 32],
+    let steps = hba.next_steps();
+    let mut numbers = [0; 32];
+    for slot in 0..32usize {
+        numbers[slot] = step_number(steps[slot]);
     }
-}
-
-/// The same, whatever the controller does with the driver's memory.
-fn steps_by_slot<A: Allocator, S: SectorStore>(hba: &Hba<A, S>) -> [u8; 32]
-    ensures { (slot : ℕ) → slot < 32 → slice_index_or result slot 0 ≡ step_number (next_step hba.now slot) }
-{
-    let mut steps = [0; 32];
-    for number in 0..32 {
-        let Some(slot) = Slot::of(number) else {
-            unreachable!() // there are 32
-        };
-        steps[slot.index()] = step_number(hba.next(slot));
-    }
-    steps
+    numbers
 }
 
 /// Copies a sector as it is now.
