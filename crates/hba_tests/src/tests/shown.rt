@@ -1,7 +1,6 @@
 //! All that a controller shows.
 
-use crate::tests::guest::slot_of;
-use ahci_hba::{AccessSize, Hba, Power, Slot, Want};
+use ahci_hba::{AccessSize, Hba, Power, Step, Want};
 use ahci_port::TagSets;
 use refusing_allocator::Refusing;
 use std::alloc::Global;
@@ -17,13 +16,13 @@ static REGISTERS: [u32; 19] = [
     0x124, 0x128, 0x12C, 0x130, 0x134, 0x138,
 ];
 
-/// What public calls show of a controller: its registers, what it reads or writes next, what it can do with each slot, and its port.
+/// What public calls show of a controller: its registers, what it reads or writes next, the next step with each slot, and its port.
 #[derive(Clone, Copy, Debug, PartialEq)]
 pub struct Shown {
     registers: [u64; 19],
     interrupt: bool,
     moves: (Want, u64, usize, usize),
-    slots: [(bool, bool, bool, bool); 32],
+    steps: [Option<Step>; 32],
     signs: bool,
     power: Power,
     received: [u8; 256],
@@ -31,15 +30,6 @@ pub struct Shown {
     entries: (u64, u64),
     sets: TagSets,
     image: [[u8; 512]; SECTORS],
-}
-
-fn shown_of(hba: &Hba<&Heap>, slot: Slot) -> (bool, bool, bool, bool) {
-    (
-        hba.may_fetch(slot),
-        hba.goes_to_port(slot),
-        hba.error_log_in(slot).is_some(),
-        hba.control_in(slot).is_some(),
-    )
 }
 
 fn image_of(hba: &Hba<&Heap>) -> [[u8; 512]; SECTORS] {
@@ -57,10 +47,6 @@ pub fn look_at(hba: &Hba<&Heap>) -> Shown {
     for (word, offset) in registers.iter_mut().zip(&REGISTERS) {
         *word = hba.read(*offset, AccessSize::Four);
     }
-    let mut slots = [(false, false, false, false); 32];
-    for (slot, number) in slots.iter_mut().zip(0u8..32) {
-        *slot = shown_of(hba, slot_of(number));
-    }
     let port = hba.port();
     Shown {
         registers,
@@ -71,7 +57,7 @@ pub fn look_at(hba: &Hba<&Heap>) -> Shown {
             hba.read_length(),
             hba.bytes().len(),
         ),
-        slots,
+        steps: hba.next_steps(),
         signs: hba.may_sign(),
         power: hba.power(),
         received: *port.received(),
