@@ -2,49 +2,55 @@
 
 ghost use Rattle.std.specs.Prelude.{◌≡◌, ◌<◌, false, None, IfOk, IfErr, OnOk, OnErr};
 ghost use Rattle.ncq_journal.specs.Work.{work_of, sectors_of};
-ghost use Rattle.ahci_table.specs.{Build.{Carries}, Command.{op}, Defaults.{default_list}, Fit.{IsFit}};
+ghost use Rattle.ahci_table.specs.{Build.{Carries}, Command.{op, queued_of}, Defaults.{default_list}, Fit.{IsFit}, Prdt.{pieces}};
 ghost use Rattle.ahci_port.specs.{Faults.{RefusesIssue}, PortView.{next_number}, Steps.{IsIssued}};
 ghost use Rattle.ahci_driver.specs.Submitting.{IsNotBuilt, buffer_for, default_refusal};
 
 use crate::ticket::Ticket;
 use ahci_port::{IssueFault, Port};
-use ahci_table::{BuildFault, Piece, Window, default_pieces};
-use arrayvec::ArrayVec;
+use ahci_table::{BuildFault, Command, Window, default_fault};
 use ncq_core::SECTOR;
 use ncq_journal::{Bytes, Op};
 use std::alloc::{AllocError, Allocator};
 
-/// A command that is ready to be issued: its window, what the journal keeps of it, and the buffer for its answer. All of it is
-/// made before the port's lock is taken.
+/// A command that is ready to be issued: its window with the command that it says, what the journal keeps of it, and the buffer for
+/// its answer. All of it is made before the port's lock is taken.
 #[derive(Drop)]
 pub(crate) struct Ready<A: Allocator> {
     window: Window<A>,
+    command: Command,
     asked: Op<A>,
     buffer: Vec<u8, A>,
 }
 
 impl<A: Allocator + Clone> Ready<A> {
-    /// A command, in a window over the default pieces.
+    /// A command without FUA, in a window over the default pieces.
     ///
     /// # Errors
-    /// Those of `Window::build`; also `OutOfMemory` where memory for the buffer or the copy was refused.
+    /// Those of `default_fault`, and `OutOfMemory` where memory for the window, the buffer or the copy was refused.
     pub(crate) fn new(alloc: A, tag: u8, op: &Op<A>) -> Result<Self, BuildFault>
         requires { tag < 32 }
         ensures carries { IfOk result (λ r. Carries tag (work_of op.now) false (default_list (sectors_of (work_of op.now))) r.window) }
         ensures fit { IfOk result (λ r. IsFit r.window) }
+        ensures queued { IfOk result (λ r. r.command.queued ≡ queued_of r.window) }
+        ensures pieces { IfOk result (λ r. r.command.pieces.items ≡ pieces r.window) }
         ensures asked { IfOk result (λ r. work_of r.asked ≡ work_of op.now) }
         ensures buffer { IfOk result (λ r. r.buffer.items ≡ buffer_for (work_of op.now)) }
         ensures built { OnOk result (default_refusal (work_of op.now) ≡ None) }
         ensures fault { IfErr result (IsNotBuilt (work_of op.now)) }
     {
+        if let Some(fault) = default_fault(op) {
+            return Err(fault);
+        }
         let (spare, other): (Result<A, AllocError>, Result<A, AllocError>) = (
             alloc.clone(),
             alloc.clone(),
         );
-        let window = Window::build(alloc, tag, op, &pieces_for(op))?;
+        let (window, command) = Window::over_default_pieces(alloc, tag, op, false)?;
         match kept(spare, other, op) {
             Ok((asked, buffer)) => Ok(Ready {
                 window,
+                command,
                 asked,
                 buffer,
             }),
@@ -55,9 +61,12 @@ impl<A: Allocator + Clone> Ready<A> {
     /// Issues the command, on a port whose lock is held. What is asked goes into the journal as it is.
     ///
     /// # Errors
-    /// Those of `Port::issue_asked`.
+    /// Those of `Port::issue_built`.
     pub(crate) fn submit_locked(self, port: &mut Port<A>) -> Result<Ticket<A>, IssueFault>
-        requires { work_of self.asked ≡ op self.window }
+        requires fit { IsFit self.window }
+        requires queued { self.command.queued ≡ queued_of self.window }
+        requires pieces { self.command.pieces.items ≡ pieces self.window }
+        requires asked { work_of self.asked ≡ op self.window }
         ensures ticket { IfOk result (λ t. t ≡ record { tag = self.window.tag; number = next_number port.old; buffer = self.buffer.items }) }
         ensures issued { OnOk result (IsIssued self.window port.old port.new) }
         ensures fault { IfErr result (RefusesIssue port.old self.window) }
@@ -65,11 +74,12 @@ impl<A: Allocator + Clone> Ready<A> {
     {
         let Ready {
             window,
+            command,
             asked,
             buffer,
         } = self;
         let tag = window.tag();
-        match port.issue_asked(window, asked) {
+        match port.issue_built(window, command, asked) {
             Ok(number) => Ok(Ticket {
                 tag,
                 number,
@@ -78,14 +88,6 @@ impl<A: Allocator + Clone> Ready<A> {
             Err((_window, fault)) => Err(fault),
         }
     }
-}
-
-/// The default pieces of a command. A count that 32 bits don't hold has none, and neither has the largest that they hold.
-#[tactic(auto, using(crate::proofs::SubmittingLemmas::capped))]
-fn pieces_for<A: Allocator>(op: &Op<A>) -> ArrayVec<Piece, 32>
-    ensures { result.items ≡ default_list (sectors_of (work_of op.now)) }
-{
-    default_pieces(op.sectors().min(u64::from(u32::MAX)) as u32)
 }
 
 /// What the journal keeps of a command, and the buffer for its answer, where there is memory for both.

@@ -1,7 +1,7 @@
 -- What a port has that issues a command.
-use Rattle.std.proofs.Common.{◌≡◌, ℕ, ◌*◌, ◌/◌, ◌^◌, ◌<◌, ◌≤◌, Bool, true, false, cond, ◌||◌, nat_eq, ltb, List, length, leb, sym, refl, ◌∙◌, subst, Option, None, Some, arith}
+use Rattle.std.proofs.Common.{◌≡◌, ℕ, ◌*◌, ◌/◌, ◌^◌, ◌<◌, ◌≤◌, Bool, true, false, cond, ◌||◌, nat_eq, ltb, List, length, leb, ap, sym, refl, ◌∙◌, subst, Option, None, Some, arith}
 use Rattle.std.specs.Option.{option_map}
-use Rattle.std.proofs.lemmas.Bool.{false≢true, leb-false}
+use Rattle.std.proofs.lemmas.Bool.{false≢true, leb-false, leb-true}
 use Rattle.ahci_table.specs.Command.{op, queued_of}
 use Rattle.ahci_table.specs.Fit.{Breaks, IsFit}
 use Rattle.ahci_table.specs.Text.{text}
@@ -39,6 +39,19 @@ early_may port tag e = by (halted port.past) (leb port.depth tag) (is_free (phas
     by false true x p q r h = absurd (cc)
     by false false true p q r h = record { running = p; below = leb-false port.depth tag q; free = free_is (phase port.past tag) r }
     by false false false p q r h = absurd (cc)
+
+-- an early refusal is one of an issue
+pub early_refuses : (port : PortView) (w : WindowState) (f : IssueFault) → early_refusal port w.tag ≡ Some f → RefusesIssue port w f
+early_refuses port w f e = by (halted port.past) (leb port.depth w.tag) (is_free (phase port.past w.tag)) refl refl refl e
+  where
+    by : (a b x : Bool) → halted port.past ≡ a → leb port.depth w.tag ≡ b → is_free (phase port.past w.tag) ≡ x
+        → cond a (Some issue.Halted) (cond b (Some issue.NoSuchTag) (cond x None (Some issue.SlotOwned))) ≡ Some f → RefusesIssue port w f
+    by true b x p q r h = let same : issue.Halted ≡ f = cc in subst (RefusesIssue port w) same p
+    by false true x p q r h = let same : issue.NoSuchTag ≡ f = cc in subst (RefusesIssue port w) same (p, leb-true port.depth w.tag q)
+    by false false true p q r h = absurd (cc)
+    by false false false p q r h =
+        let same : issue.SlotOwned ≡ f = cc in
+        subst (RefusesIssue port w) same (p, leb-false port.depth w.tag q, (λ free. false≢true (sym r ∙ ap is_free free)))
 
 -- a command that may be submitted is one that the port takes
 pub submit_may : (port : PortView) (tag lba sectors : ℕ) → submit_refusal port tag lba sectors ≡ None → MayTake port tag

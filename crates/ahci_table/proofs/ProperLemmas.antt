@@ -1,9 +1,9 @@
 -- Nothing refuses a proper command over the default pieces.
-use Rattle.std.proofs.Common.{◌≡◌, ℕ, ◌*◌, ◌%◌, ◌≤◌, Bool, true, false, not, ◌||◌, cond, nat_eq, length, Option, Some, None, ap, refl, arith}
+use Rattle.std.proofs.Common.{◌≡◌, ℕ, ◌*◌, ◌%◌, ◌<◌, ◌≤◌, Bool, true, false, not, ◌||◌, cond, nat_eq, length, Option, Some, None, ap, refl, arith}
 use Rattle.std.specs.Prelude.{◌^◌, nat_lt, nat_le}
 use Rattle.std.proofs.lemmas.Bool.{eq-eqb, eqb-true, le-ltb, lt-leb, true≢false}
 use Rattle.ahci_table.specs.Defaults.{default_list}
-use Rattle.ahci_table.specs.Refusal.{list_refusal, refusal}
+use Rattle.ahci_table.specs.Refusal.{has_bad_count, list_refusal, refusal}
 use Rattle.ahci_table.specs.declared.fault.BuildFault.{BuildFault}
 use Rattle.ahci_table.specs.declared.fault.BuildFault.TheVariants.{BadCount, BadLba}
 use Rattle.ahci_table.proofs.DefaultLemmas.{defaults_serve}
@@ -35,3 +35,13 @@ proper_serves work p =
     no_case (nat_eq (sectors_of work) 0) (nat_lt most_sectors (sectors_of work)) (is_ragged work) (nat_le (2 ^ 48) (lba_of work))
     (list_refusal (default_list (sectors_of work)) (512 * sectors_of work)) (not_zero (sectors_of work) p.some) (le-ltb most_sectors (sectors_of work) p.most) (not_ragged work p.whole)
     (lt-leb (2 ^ 48) (lba_of work) p.lba) (defaults_serve work)
+
+-- over the default pieces count and address alone refuse a command
+pub default_serves : (work : Work) → has_bad_count work ≡ false → lba_of work < 2 ^ 48 → refusal work (default_list (sectors_of work)) ≡ None
+default_serves work good low =
+    by (has_bad_count work) (nat_le (2 ^ 48) (lba_of work)) (list_refusal (default_list (sectors_of work)) (512 * sectors_of work)) good (lt-leb (2 ^ 48) (lba_of work) low) (defaults_serve work good)
+  where
+    by : (a b : Bool) (rest : Option BuildFault) → a ≡ false → b ≡ false → rest ≡ None → cond a (Some BadCount) (cond b (Some BadLba) rest) ≡ None
+    by false false rest p q e = e
+    by true b rest p q e = absurd (true≢false p)
+    by false true rest p q e = absurd (true≢false q)

@@ -23,4 +23,5 @@ pub use defaults::default_pieces;
 pub use fault::{BuildFault, TableFault};
 pub use ncq_journal::OutOfMemory;
 pub use piece::Piece;
+pub use refusing::default_fault;
 pub use window::{MAX_BYTES, Window};

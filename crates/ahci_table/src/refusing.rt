@@ -1,8 +1,9 @@
 //! Why no window is built.
 
-ghost use Rattle.std.specs.Prelude.{◌≡◌, ◌<◌, ◌≤◌, ◌^◌, length};
+ghost use Rattle.std.specs.Prelude.{◌≡◌, ◌<◌, ◌≤◌, ◌^◌, ⊤, length, MatchOption};
 ghost use Rattle.std.specs.List.{list_any};
-ghost use Rattle.ncq_journal.specs.Work.{work_of};
+ghost use Rattle.ncq_journal.specs.{Lawful.{IsProper}, Work.{sectors_of, work_of}};
+ghost use Rattle.ahci_table.specs.Defaults.{default_list};
 ghost use Rattle.ahci_table.specs.Refusal.{has_bad_count, is_odd, is_outside, list_refusal, refusal};
 
 use crate::fault::BuildFault;
@@ -86,4 +87,20 @@ pub(crate) fn refusal<A: Allocator>(op: &Op<A>, pieces: &[Piece]) -> Option<Buil
         return Some(BuildFault::BadLba);
     }
     list_refusal(pieces, 512 * op.sectors())
+}
+
+/// Why no window over the default pieces is built for a command, memory aside: `BadCount` or `BadLba`, since the default
+/// pieces serve every other command.
+#[tactic(auto, using(crate::proofs::ProperLemmas::default_serves))]
+pub fn default_fault<A: Allocator>(op: &Op<A>) -> Option<BuildFault>
+    ensures fault { result ≡ refusal (work_of op.now) (default_list (sectors_of (work_of op.now))) }
+    ensures proper { MatchOption result (IsProper (work_of op.now)) (λ fault. ⊤) }
+{
+    if has_bad_count(op) {
+        return Some(BuildFault::BadCount);
+    }
+    if op.lba() >= LBA_LIMIT {
+        return Some(BuildFault::BadLba);
+    }
+    None
 }

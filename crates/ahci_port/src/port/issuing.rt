@@ -141,6 +141,35 @@ impl<A: Allocator + Clone, S: SectorStore> Port<A, S> {
         }
     }
 
+    /// Issues the command of a window as `issue_asked` does, where the command is at hand too, as `Window::over_default_pieces`
+    /// answers it: the window is not read.
+    ///
+    /// # Errors
+    /// `Halted`, `NoSuchTag`, `SlotOwned`, and `OutOfMemory` if pages or room for entries are lacking; the window comes back as it was.
+    #[tactic(auto, using(crate::proofs::TakenLemmas::early_may))]
+    pub fn issue_built(
+        &mut self,
+        window: Window<A>,
+        command: Command,
+        asked: Op<A>,
+    ) -> Result<u64, (Window<A>, IssueFault)>
+        requires fit { IsFit window }
+        requires queued { command.queued ≡ queued_of window }
+        requires pieces { command.pieces.items ≡ pieces window }
+        requires asked { work_of asked ≡ op window }
+        ensures number { IfOk result (λ n. n ≡ next_number self.old) }
+        ensures issued { OnOk result (IsIssued window self.old self.new) }
+        ensures taken { OnOk result (MayTake self.old window.tag) }
+        ensures fault { IfErr result (λ e. RefusesIssue self.old window e.1) }
+        ensures lacking { IfErr result (λ e. e.1 ≡ IssueFault.OutOfMemory → MayLack S.can_grow self.old (op window)) }
+        ensures err { IfErr result (λ e. (e.0 ≡ window) × (self.new ≡ self.old)) }
+    {
+        if let Some(fault) = self.early_fault(window.tag()) {
+            return Err((window, fault));
+        }
+        self.entered(window, command, asked)
+    }
+
     /// Issues a command that isn't refused, as `enter` does; where memory is refused, its window comes back.
     #[inline(always)]
     fn entered(
