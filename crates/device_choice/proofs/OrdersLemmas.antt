@@ -9,9 +9,9 @@ use lib.Lanes.{mask_l}
 use Rattle.word_bits.specs.Places.{bits, word_of, has_place, no_places, without_place}
 use Rattle.word_bits.proofs.PlacesLemmas.{has_place_past, has_place-no_places, length-no_places, same_sets}
 use Rattle.word_bits.proofs.BitsLemmas.{length-bits, word_of-bits, same_word, bits_zero}
-use Rattle.device_choice.specs.Orders.{count_in, count_below, IsDrawn, Names}
+use Rattle.device_choice.specs.Orders.{count_in, count_below, IsDrawn, behind, IsNext, Names}
 use Rattle.device_choice.specs.declared.order.Order.{Order}
-use Rattle.device_choice.specs.declared.order.Order.TheVariants.{Lowest, Highest, Drawn}
+use Rattle.device_choice.specs.declared.order.Order.TheVariants.{Lowest, Highest, Drawn, Round}
 
 -- ---- counting
 
@@ -90,6 +90,36 @@ draw_has_fallen w draw below tag some h last so =
     let all : count_below (bits w) tag ≡ count_in (bits w) = ap (count_below (bits w)) last ∙ count_below_all w in
     omega (arith, so, all, n)
 
+-- ---- the loop that goes round from a draw's place
+
+-- none of the places before a step is in the set
+abbrev pub NoneBefore : ℕ → List Bool → ℕ → Type 0
+NoneBefore draw s step = (k : ℕ) → k < step → has_place s ((draw % 32 + k) % 32) ≡ false
+
+pub round_goes_by : (draw : ℕ) (s : List Bool) (step tag : ℕ) → NoneBefore draw s step → tag ≡ (draw % 32 + step) % 32 → has_place s tag ≡ false → NoneBefore draw s (step + 1)
+round_goes_by draw s step tag before at out k h =
+    let P : ℕ → Type 0 = λ i. has_place s i ≡ false in
+    ⊎_elim (λ e. subst P (at ∙ ap (λ n. (draw % 32 + n) % 32) (sym e)) out) (λ n. before k (omega arith)) (cases_eq k step)
+
+pub round_comes : (draw : ℕ) (s : List Bool) (step tag : ℕ) → NoneBefore draw s step → tag ≡ (draw % 32 + step) % 32 → step < 32 → has_place s tag ≡ true → IsNext draw s tag
+round_comes draw s step tag before at h here = record {
+  here = here;
+  is_tag = omega arith;
+  nearest = λ t low there. let P : ℕ → Type 0 = λ i. has_place s i ≡ false in
+      ⊎_elim (λ early. absurd (both_ways _ (subst P (back t low) (before (behind draw t) early)) there)) (λ late. omega arith) (cases_lt (behind draw t) step);
+}
+  where
+    back : (t : ℕ) → t < 32 → (draw % 32 + behind draw t) % 32 ≡ t
+    back t low = omega arith
+
+pub round_is_over : (draw w step : ℕ) → NoneBefore draw (bits w) step → step ≡ 32 → bits w ≡ no_places
+round_is_over draw w step before last =
+    let P : ℕ → Type 0 = λ i. has_place (bits w) i ≡ false in
+    same_sets (bits w) no_places (length-bits w ∙ sym length-no_places)
+    (λ i h. let low : i < 32 = omega (arith, length-bits w) in
+    let e : (draw % 32 + behind draw i) % 32 ≡ i = omega arith in
+    subst P e (before (behind draw i) (omega arith)) ∙ sym (has_place-no_places i))
+
 -- ---- what an order names
 
 -- it is in the set
@@ -97,6 +127,7 @@ pub names-here : (order : Order) (draw : ℕ) (s : List Bool) (tag : ℕ) → Na
 names-here Lowest draw s tag n = n.here
 names-here Highest draw s tag n = n.here
 names-here Drawn draw s tag n = n.here
+names-here Round draw s tag n = n.here
 
 pub names_below_32 : (order : Order) (draw w tag : ℕ) → Names order draw (bits w) tag → tag < 32
 names_below_32 order draw w tag n = omega (arith, place-lt-length (bits w) tag (names-here order draw (bits w) tag n), length-bits w)
@@ -106,6 +137,7 @@ not_lower : (order : Order) (draw : ℕ) (s : List Bool) (a b : ℕ) → Names o
 not_lower Lowest draw s a b m n h = both_ways _ (n.below a h) m.here
 not_lower Highest draw s a b m n h = both_ways _ (m.above b h) n.here
 not_lower Drawn draw s a b m n h = omega (arith, m.below, n.below, count_below_here s a m.here, count_below_mono s (a + 1) b (omega arith))
+not_lower Round draw s a b m n h = omega (arith, m.is_tag, n.is_tag, m.nearest b n.is_tag n.here, n.nearest a m.is_tag m.here)
 
 pub names_one : (order : Order) (draw : ℕ) (s : List Bool) (a b : ℕ) → Names order draw s a → Names order draw s b → a ≡ b
 names_one order draw s a b m n =

@@ -2,7 +2,7 @@
 
 ghost use Rattle.std.specs.Prelude.{◌≡◌, MatchOption};
 ghost use Rattle.word_bits.specs.Places.{bits, no_places};
-ghost use Rattle.device_choice.specs.Orders.{Names, IsDrawn};
+ghost use Rattle.device_choice.specs.Orders.{Names, IsDrawn, IsNext};
 
 use word_bits::{highest, is_set, lowest};
 
@@ -15,9 +15,11 @@ pub enum Order {
     Highest,
     /// The one that a draw falls on.
     Drawn,
+    /// The first one from the place that a draw says, going round past 31 to 0.
+    Round,
 }
 
-/// The tag of a set that an order names, or `None` if the set is empty. A draw is any number; only `Drawn` looks at it.
+/// The tag of a set that an order names, or `None` if the set is empty. A draw is any number; `Drawn` and `Round` look at it.
 pub fn tag_of(order: Order, set: u32, draw: u64) -> Option<u8>
     ensures { MatchOption result (bits set ≡ no_places) (Names order draw (bits set)) }
 {
@@ -25,6 +27,7 @@ pub fn tag_of(order: Order, set: u32, draw: u64) -> Option<u8>
         Order::Lowest => lowest(set),
         Order::Highest => highest(set),
         Order::Drawn => drawn(set, draw),
+        Order::Round => next_from(set, draw),
     }
 }
 
@@ -43,6 +46,21 @@ fn drawn(set: u32, draw: u64) -> Option<u8>
                 return Some(tag);
             }
             below -= 1;
+        }
+    }
+    None
+}
+
+/// The tag that comes first from the draw's place on. The draw counts modulo 32, and place 0 comes after 31.
+#[tactic(auto, using(crate::proofs::OrdersLemmas::round_goes_by, crate::proofs::OrdersLemmas::round_comes, crate::proofs::OrdersLemmas::round_is_over))]
+fn next_from(set: u32, draw: u64) -> Option<u8>
+    ensures { MatchOption result (bits set ≡ no_places) (IsNext draw (bits set)) }
+{
+    let first = (draw % 32) as u8;
+    for step in 0..32u8 {
+        let tag = (first + step) % 32;
+        if is_set(set, tag) {
+            return Some(tag);
         }
     }
     None
