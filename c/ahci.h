@@ -181,7 +181,8 @@ typedef enum ahci_status {
 typedef enum ahci_order {
     AHCI_ORDER_LOWEST = 0,  /* the lowest tag first */
     AHCI_ORDER_HIGHEST = 1, /* the highest tag first */
-    AHCI_ORDER_DRAWN = 2    /* the tag that a draw falls on: the lowest is number 0, and the draw counts modulo how many there are */
+    AHCI_ORDER_DRAWN = 2,   /* the tag that a draw falls on: the lowest is number 0, and the draw counts modulo how many there are */
+    AHCI_ORDER_ROUND = 3    /* the first tag from a draw's place on, the draw modulo 32, going round past 31 to 0 */
 } ahci_order;
 
 /* What a command does. With FUA (ACS-3, READ and WRITE FPDMA QUEUED) the device of its command FIS has bit 7. */
@@ -830,8 +831,8 @@ uint32_t ahci_log_page(uint32_t tag, uint8_t error, uint64_t lba, uint8_t *out, 
    another kind, a tag that is not below 32 or an error over 255 can't come anywhere. AHCI_BAD_DEPTH. */
 uint32_t ahci_journal_check(uint32_t sectors, uint32_t depth, const ahci_entry *events, size_t count, size_t *first_bad);
 
-/* Which tag of a set, the bits of a word, an order names (ahci_order). A draw is any number, and only AHCI_ORDER_DRAWN looks at it.
-   AHCI_BAD_KIND for a number that is not an order, AHCI_BAD_TAGS if the set is empty. */
+/* Which tag of a set, the bits of a word, an order names (ahci_order). A draw is any number; AHCI_ORDER_DRAWN and AHCI_ORDER_ROUND
+   look at it. AHCI_BAD_KIND for a number that is not an order, AHCI_BAD_TAGS if the set is empty. */
 uint32_t ahci_choose_tag(uint32_t order, uint32_t set, uint64_t draw, uint32_t *tag);
 
 /* Which tags of a set the device completes next, by one Set Device Bits FIS: up to `most` tags, at most 32, each named by the order out of those

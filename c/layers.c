@@ -217,6 +217,17 @@ static void choices(void)
         /* 6 mod 4 is 2: tag 4; of 1, 3, 9 number 1: tag 3; of 1, 9 number 7 mod 2: tag 9; then no draw is there: tag 1 */
         { AHCI_ORDER_DRAWN, 0x21A, 0, 4, { 6, 1, 7 }, 3, { 4, 3, 9, 1 }, 4 },
         { AHCI_ORDER_DRAWN, 0x21A, 0, 1, { UINT64_MAX }, 1, { 9 }, 1 },
+        /* the tags 1, 5, 30, from the draw's place on */
+        { AHCI_ORDER_ROUND, 0x40000022, 0, 1, { 0 }, 1, { 1 }, 1 },
+        { AHCI_ORDER_ROUND, 0x40000022, 0, 1, { 1 }, 1, { 1 }, 1 },
+        { AHCI_ORDER_ROUND, 0x40000022, 0, 1, { 2 }, 1, { 5 }, 1 },
+        { AHCI_ORDER_ROUND, 0x40000022, 0, 1, { 6 }, 1, { 30 }, 1 },
+        { AHCI_ORDER_ROUND, 0x40000022, 0, 1, { 30 }, 1, { 30 }, 1 },
+        { AHCI_ORDER_ROUND, 0x40000022, 0, 1, { 31 }, 1, { 1 }, 1 },
+        { AHCI_ORDER_ROUND, 0x40000022, 0, 1, { 34 }, 1, { 5 }, 1 },
+        { AHCI_ORDER_ROUND, 0x40000022, 0, 1, { UINT64_MAX }, 1, { 1 }, 1 }, /* 2^64 - 1 is 31 modulo 32 */
+        { AHCI_ORDER_ROUND, 0x40000022, 0, 32, { 6, 6, 6 }, 3, { 30, 1, 5 }, 3 },
+        { AHCI_ORDER_ROUND, 0x40000022, 0x2, 32, { 6, 6, 6 }, 3, { 30 }, 1 },
         /* up to a tag that is to fail, or that one alone */
         { AHCI_ORDER_LOWEST, 0x21A, 0x10, 32, { 0 }, 0, { 1, 3 }, 2 },
         { AHCI_ORDER_LOWEST, 0x21A, 0x12, 32, { 0 }, 0, { 1 }, 1 },
@@ -234,9 +245,9 @@ static void choices(void)
         CHECK(!length || tag == tags[0]);
     }
     tag = length = 99;
-    CHECK(ahci_choose_tag(3, 1, 0, &tag) == AHCI_BAD_KIND);
+    CHECK(ahci_choose_tag(4, 1, 0, &tag) == AHCI_BAD_KIND);
     CHECK(ahci_choose_tag(AHCI_ORDER_DRAWN, 0, 7, &tag) == AHCI_BAD_TAGS);
-    CHECK(ahci_choose_tags(3, 0, 0, 1, rows->draws, 0, tags, sizeof tags, &length) == AHCI_BAD_KIND);
+    CHECK(ahci_choose_tags(4, 0, 0, 1, rows->draws, 0, tags, sizeof tags, &length) == AHCI_BAD_KIND);
     CHECK(ahci_choose_tags(AHCI_ORDER_LOWEST, 0, 0, 1, rows->draws, 0, tags, 0, &length) == AHCI_BAD_TAGS);
     CHECK(ahci_choose_tags(AHCI_ORDER_LOWEST, 0x21A, 0, 32, rows->draws, 0, tags, 3, &length) == AHCI_BUFFER_TOO_SMALL);
     CHECK(tag == 99 && length == 99);

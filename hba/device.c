@@ -111,9 +111,12 @@ static bool choose(struct device *device, uint32_t *slot) {
         return false;
     if (choice.delivers && !history_is_kept(&device->history))
         return false;
-    device_must("ahci_choose_tag", ahci_choose_tag(device->settings->pick, choice.early ? choice.early : choice.answers, next_random(&device->random), slot));
-    if (!choice.early)
+    uint64_t draw = pick_draw(device->settings->pick, &device->random, device->next);
+    device_must("ahci_choose_tag", ahci_choose_tag(device->settings->pick, choice.early ? choice.early : choice.answers, draw, slot));
+    if (!choice.early) {
         device->wait = WAIT_NOTHING;
+        device->next = *slot + 1; /* an early step doesn't move it: a command that is fetched would put others off */
+    }
     return true;
 }
 

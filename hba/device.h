@@ -64,6 +64,7 @@ struct device {
     struct writeback writeback;
     bool mute;        /* no signature is sent until then either, since there was no memory for the last FIS */
     uint64_t random;  /* the state of --pick random, and of --delay's jitter */
+    uint32_t next;    /* the place after the slot that was chosen last for an answer */
     uint64_t started; /* nanoseconds of CLOCK_MONOTONIC */
     enum wait wait;
     uint64_t due;     /* until when, in nanoseconds of CLOCK_MONOTONIC */

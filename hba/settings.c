@@ -63,7 +63,8 @@ static const char help[] =
     "                               guest had disabled the cache\n"
     "      --trim HOW               What DATA SET MANAGEMENT with TRIM does: the sectors that it names are zeros, which IDENTIFY DEVICE reports\n"
     "                               (zeros), or they stay as they are (advice) (default zeros)\n"
-    "      --pick WHICH             The command that the device goes on with: low, high or random slot (default low)\n"
+    "      --pick WHICH             The command that the device goes on with: that of the low, the high or a random slot, or by roundrobin that\n"
+    "                               of the next slot after the one answered last, going round past 31 to 0 (default low)\n"
     "      --seed N                 The seed of --pick random (default 1)\n"
     "      --fail WHERE:EE[:COUNT][,CONDITION]..\n"
     "                               The device fails commands with the error byte EE, two hexadecimal digits. WHERE is LBA, LBA-LBA\n"
@@ -105,14 +106,6 @@ static const char help[] =
 #define MOST_HOLD 1000000u /* microseconds */
 #define MOST_SLOW_READS 1000000
 #define MOST_MEMORY_WAIT 1000000 /* seconds */
-
-static int take_pick(const char *text, ahci_order *pick) {
-    static const char *const words[] = {[AHCI_ORDER_LOWEST] = "low", [AHCI_ORDER_HIGHEST] = "high", [AHCI_ORDER_DRAWN] = "random", NULL};
-    unsigned place = 0;
-    int wrong = option_word("pick", text, words, "low, high or random", &place);
-    *pick = (ahci_order)place;
-    return wrong;
-}
 
 static int take_sync(const char *text, enum sync *sync) {
     static const char *const words[] = {[SYNC_END] = "end", [SYNC_FLUSH] = "flush", NULL};
@@ -185,7 +178,7 @@ static int take_choice(struct settings *settings, const char *name, const char *
     if (!strcmp(name, "transport"))
         return take_way(value, &settings->way);
     if (!strcmp(name, "pick"))
-        return take_pick(value, &settings->pick);
+        return pick_take(name, value, "low, high, random or roundrobin", &settings->pick);
     if (!strcmp(name, "sync"))
         return take_sync(value, &settings->sync);
     if (!strcmp(name, "trim"))

@@ -5,6 +5,7 @@
 #include "hold.h"
 #include "mapped.h"
 #include "numbers.h"
+#include "pick.h"
 #include "script.h"
 
 #include <ahci.h>
@@ -31,7 +32,7 @@ struct settings {
     ahci_hba_capabilities capabilities; /* of the controller */
     ahci_identity identity; /* what IDENTIFY DEVICE names the disk */
     ahci_order pick;  /* which of the commands that the device has taken it goes on with */
-    uint64_t seed;    /* of AHCI_ORDER_DRAWN */
+    uint64_t seed;    /* of --pick random */
     struct delay delay; /* before the device answers a command */
     struct script *script; /* which commands fail, are slow or are never answered, and what else happens */
     const char *script_file; /* NULL: all of it comes from --fail, --slow and --stall */

@@ -1,6 +1,5 @@
 #include "device.h"
 
-#include "generator.h"
 #include "say.h"
 
 #include <errno.h>
@@ -21,21 +20,16 @@ static uint32_t lowest(uint32_t set) {
 
 /* ---- which step ---- */
 
-/* The numbers by which pick=random chooses tags, one for each that can be completed together; how many there are. */
-static size_t draw(struct driver *driver, uint64_t *draws) {
-    size_t count = driver->settings->pick == PICK_RANDOM ? driver->settings->together : 0;
-    for (size_t at = 0; at < count; at++)
-        draws[at] = next_random(&driver->random);
-    return count;
-}
-
 /* Chooses the tags of a set that the device completes next, or the one that it fails; how many there are. */
 static size_t choose(struct driver *driver, uint32_t set, uint32_t failing, uint8_t *tags) {
-    static const ahci_order orders[] = {
-        [PICK_LOW] = AHCI_ORDER_LOWEST, [PICK_HIGH] = AHCI_ORDER_HIGHEST, [PICK_ALL] = AHCI_ORDER_LOWEST, [PICK_RANDOM] = AHCI_ORDER_DRAWN};
-    uint64_t draws[AHCI_MOST_TAGS] = {0};
-    size_t drawn = draw(driver, draws), count = 0;
-    driver_must("ahci_choose_tags", ahci_choose_tags(orders[driver->settings->pick], set, failing, driver->settings->together, draws, drawn, tags, AHCI_MOST_TAGS, &count));
+    ahci_order order = driver->settings->pick;
+    uint32_t together = driver->settings->together;
+    uint64_t draws[AHCI_MOST_TAGS];
+    size_t count = 0;
+    for (uint32_t at = 0; at < together; at++)
+        draws[at] = pick_draw(order, &driver->random, driver->next);
+    driver_must("ahci_choose_tags", ahci_choose_tags(order, set, failing, together, draws, together, tags, AHCI_MOST_TAGS, &count));
+    driver->next = tags[count - 1] + UINT32_C(1);
     return count;
 }
 

@@ -50,7 +50,8 @@ struct driver {
     uint32_t accepted; /* those that it has */
     uint64_t journal;  /* about how many bytes the port's journal has */
     struct counts counts;
-    uint64_t random;  /* the state of PICK_RANDOM, and of delay='s jitter */
+    uint64_t random;  /* the state of pick=random, and of delay='s jitter */
+    uint32_t next;    /* the place after the tag that the device has chosen last */
     uint64_t started; /* nanoseconds of CLOCK_MONOTONIC */
 };
 

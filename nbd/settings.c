@@ -20,7 +20,8 @@ const char settings_help[] =
     "image=FILE           the sectors at the start; those that are written are written back to it\n"
     "sync=end|flush       when: at the end, or also at each flush (default end)\n"
     "depth=N              slots of the port, 1 to 32 (default 32)\n"
-    "pick=low|high|all|random   the tag that the device goes on with (default low)\n"
+    "pick=low|high|all|random|roundrobin   the tag that the device goes on with; roundrobin: the next one\n"
+    "                     after the last, going round past 31 to 0 (default low)\n"
     "seed=N               of pick=random (default 1)\n"
     "together=N           tags that one Set Device Bits FIS completes, 1 to 32 (default 1; all: 32)\n"
     "delay=MICROSECONDS[+JITTER]   the device waits so long before each step, and up to JITTER more\n"
@@ -53,12 +54,9 @@ void settings_end(struct settings *settings) {
     free(settings->script_file);
 }
 
-static int take_pick(const char *text, enum pick *pick) {
-    static const char *const words[] = {[PICK_LOW] = "low", [PICK_HIGH] = "high", [PICK_ALL] = "all", [PICK_RANDOM] = "random", NULL};
-    unsigned place = 0;
-    int wrong = option_word("pick", text, words, "low, high, all or random", &place);
-    *pick = (enum pick)place;
-    return wrong;
+static int take_pick(const char *text, struct settings *settings) {
+    settings->picks_all = !strcmp(text, "all");
+    return settings->picks_all ? 0 : pick_take("pick", text, "low, high, all, random or roundrobin", &settings->pick);
 }
 
 static int take_sync(const char *text, enum sync *sync) {
@@ -95,7 +93,7 @@ static int take_one(struct settings *settings, const char *key, const char *valu
     if (!strcmp(key, "depth"))
         return option_small(key, value, 1, AHCI_MOST_TAGS, &settings->depth);
     if (!strcmp(key, "pick"))
-        return take_pick(value, &settings->pick);
+        return take_pick(value, settings);
     if (!strcmp(key, "seed"))
         return option_number(key, value, 0, UINT64_MAX, &settings->seed);
     if (!strcmp(key, "together"))
@@ -152,7 +150,7 @@ int settings_complete(struct settings *settings) {
     if (mapped_open(&settings->mapped) || image_settle(&settings->mapped.image, &settings->sectors, LARGEST_DISK) || look_at_pairs(settings))
         return -1;
     if (settings->together == 0)
-        settings->together = settings->pick == PICK_ALL ? AHCI_MOST_TAGS : 1;
+        settings->together = settings->picks_all ? AHCI_MOST_TAGS : 1;
     if (settings->most_journal == 0)
         settings->most_journal = usual_journal(settings->sectors);
     if (settings->script_file && script_read(settings->script, settings->script_file, SERVER_NBD))

@@ -3,13 +3,11 @@
 #define AHCI_NBD_SETTINGS_H
 
 #include "mapped.h"
+#include "pick.h"
 #include "script.h"
 
 #include <stdbool.h>
 #include <stdint.h>
-
-/* Which accepted tag the device goes on with. */
-enum pick { PICK_LOW, PICK_HIGH, PICK_ALL, PICK_RANDOM };
 
 /* When the image is written back. */
 enum sync { SYNC_END, SYNC_FLUSH };
@@ -17,8 +15,9 @@ enum sync { SYNC_END, SYNC_FLUSH };
 struct settings {
     uint32_t sectors; /* 1 to 2^32 - 1; 0 until it is known */
     uint32_t depth;   /* 1 to 32 */
-    enum pick pick;
-    uint64_t seed;     /* of PICK_RANDOM */
+    ahci_order pick;   /* which accepted tag the device goes on with */
+    bool picks_all;    /* pick=all: the lowest first, and as many together as there are */
+    uint64_t seed;     /* of pick=random */
     uint32_t together; /* 1 to 32: tags that one Set Device Bits FIS completes at most */
     struct delay delay; /* before each step of the device */
     uint64_t most_journal; /* bytes of the journal after which it is trimmed */

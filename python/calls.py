@@ -155,7 +155,8 @@ def layers() -> None:
     assert ahci.choose_tags(Order.HIGHEST, 0b11010, failing=0b10) == [4, 3] and ahci.choose_tags(Order.LOWEST, 0b11010, failing=0b10) == [1]
     assert ahci.choose_tags(Order.DRAWN, 0b11010, most=2, draws=[2, 1]) == [4, 3] and ahci.choose_tags(Order.LOWEST, (1 << 32) - 1) == list(range(32))
     refused(Status.BAD_TAGS, lambda: ahci.choose_tag(Order.LOWEST, 0))
-    refused(Status.BAD_KIND, lambda: ahci.choose_tags(3, 1))  # type: ignore[arg-type]
+    assert [ahci.choose_tag(Order.ROUND, 0b11010, draw) for draw in (0, 2, 5, 35)] == [1, 3, 1, 3]
+    refused(Status.BAD_KIND, lambda: ahci.choose_tags(4, 1))  # type: ignore[arg-type]
     assert ahci.status_text(Status.OUTSIDE_COMMAND) == "OutsideCommand"
     refused(Status.BAD_KIND, lambda: ahci.status_text(14))
     refused(Status.BAD_DEPTH, lambda: ahci.journal_check(8, 33, []))
@@ -182,7 +183,7 @@ def wide_numbers() -> None:
             ("error", 8): (lambda it: port.fail(0, it, 0), lambda it: ahci.log_page(32, it, 0)),
             ("number", 64): (lambda it: port.collect(0, it), port.entry, port.entry_bytes),
             ("status", 32): (ahci.status_text,),
-            ("tags", 32): (lambda it: ahci.choose_tag(3, it), lambda it: ahci.choose_tags(3, it)),  # type: ignore[arg-type]
+            ("tags", 32): (lambda it: ahci.choose_tag(4, it), lambda it: ahci.choose_tags(4, it)),  # type: ignore[arg-type]
             ("draw", 64): (lambda it: ahci.choose_tag(Order.DRAWN, 0, it), lambda it: ahci.choose_tags(Order.DRAWN, 0, draws=[0, it])),
             ("failing", 32): (lambda it: ahci.choose_tags(Order.LOWEST, 0, it),),
             ("most", 32): (lambda it: ahci.choose_tags(Order.LOWEST, 0, 0, it),),

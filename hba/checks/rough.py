@@ -121,7 +121,7 @@ def command_lines(room: str) -> str:
         (["run", "--model", 41 * "m", *run], f'--model: expected at most 40 characters of ASCII, got "{41 * "m"}"'),
         (["run", "--serial", 21 * "s", *run], f'--serial: expected at most 20 characters of ASCII, got "{21 * "s"}"'),
         (["run", "--rpm", "1024", *run], '--rpm: expected 0, 1, or 1025 to 65534, got "1024"'),
-        (["run", "--pick", "all", *run], '--pick: expected low, high or random, got "all"'),
+        (["run", "--pick", "all", *run], '--pick: expected low, high, random or roundrobin, got "all"'),
         (["run", "--sync", "never", *run], '--sync: expected end or flush, got "never"'),
         (["run", "--trim", "ones", *run], '--trim: expected zeros or advice, got "ones"'),
         ([*small, "--trim", "advice", "--trim", "zeros", *run], "--trim zeros: --trim is given twice"),

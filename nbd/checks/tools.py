@@ -22,7 +22,7 @@ def wrong_words(room: str) -> str:
           for value in ("0", "513", "2T", "1TB")),
         *((f"{key}={value}", f'{key}: {size}, such as 4096, 512K, 64M or 1G, got "{value}"') for key, value in (("most-journal", "0"), ("record-limit", "64MB"))),
         ("delay=1+", 'delay: expected MICROSECONDS or MICROSECONDS+JITTER, each a decimal number up to 10000000, got "1+"'),
-        ("pick=some", 'pick: expected low, high, all or random, got "some"'), ("sync=never", 'sync: expected end or flush, got "never"'),
+        ("pick=some", 'pick: expected low, high, all, random or roundrobin, got "some"'), ("sync=never", 'sync: expected end or flush, got "never"'),
         ("fail=1:4", "fail: expected WHERE:EE"), ("slow=1", "slow: expected WHERE:MICROSECONDS"), ("stall=1", "stall: there is no such parameter"),
         ("fail=131072:40", "fail=131072..: the disk has 131072 sectors"), ("slow=131072:1", "slow=131072..: the disk has 131072 sectors"),
         ("what=1", "what: there is no such parameter"), ("image=/nowhere/image", "image=/nowhere/image: No such file"), ("image=/", "no regular file"),
@@ -88,7 +88,7 @@ def long_requests(room: str) -> str:
 def chosen_tags(room: str) -> str:
     """The device goes on with the tags that `pick` says, as many at once as `together` says: each entry of the records is looked at."""
     looked = 0
-    for pick, given, together in (("low", [], 1), ("low", ["together=3"], 3), ("high", ["together=2"], 2), ("all", [], 32), ("random", ["together=4"], 4)):
+    for pick, given, together in (("low", [], 1), ("low", ["together=3"], 3), ("high", ["together=2"], 2), ("all", [], 32), ("random", ["together=4"], 4), ("roundrobin", ["together=2"], 2)):
         record = os.path.join(room, f"record-{pick}-{together}")
         with serving(room, "sectors=2048", f"record={record}", f"pick={pick}", "delay=2000", *given) as server:
             must_be_clean(fio(server, "chosen", "--rw=randwrite", "--bs=512", "--iodepth=32", "--size=1m", "--number_ios=400", "--randseed=9"))
@@ -99,21 +99,22 @@ def chosen_tags(room: str) -> str:
 def looked_at(record: Record, pick: str, together: int) -> int:
     """How many entries of a record had to choose, if all of them chose as they should."""
     accepted: List[int] = []
-    several, middle = 0, 0
+    several, middle, first = 0, 0, 0
     for it in record.entries():
         if it.kind == ACCEPT:
             accepted.append(it.tag)
         if it.kind != SERVE:
             continue
         tags, rising = list(it.data[:it.count]), sorted(accepted)
-        wanted = (rising[::-1] if pick == "high" else rising)[:together]
+        going_round = sorted(rising, key=lambda tag: (tag - first) % 32)
+        wanted = (rising[::-1] if pick == "high" else going_round if pick == "roundrobin" else rising)[:together]
         is_chosen = len(tags) == len(wanted) and set(tags) <= set(rising) if pick == "random" else tags == wanted
         if not is_chosen:
             raise Failed(f"pick={pick}: {tags}, of the tags {rising}")
         several += len(rising) > 1
         middle += tags[0] not in (rising[0], rising[-1])
-        accepted = [tag for tag in accepted if tag not in tags]
-    if several < 10 or pick == "random" and not middle:
+        accepted, first = [tag for tag in accepted if tag not in tags], tags[-1] + 1
+    if several < 10 or pick in ("random", "roundrobin") and not middle:
         raise Failed(f"pick={pick}: {several} entries had a choice, and {middle} began with a tag between the others")
     return several
 

@@ -68,7 +68,7 @@ def journal_check(sectors: int, depth: int, events: Sequence[Entry]) -> Optional
 
 
 def choose_tag(order: Order, tags: int, draw: int = 0) -> int:
-    """The tag of a set, the bits of a word, that an order names. Only `Order.DRAWN` looks at the draw, which is any number of 64 bits."""
+    """The tag of a set, the bits of a word, that an order names. `Order.DRAWN` and `Order.ROUND` look at the draw, which is any number of 64 bits."""
     tag = u32()
     call("choose_tag", order, fits(tags, 32, "tags"), fits(draw, 64, "draw"), ctypes.byref(tag))
     return int(tag.value)

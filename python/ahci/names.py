@@ -63,6 +63,7 @@ class Order(enum.IntEnum):
     LOWEST = 0
     HIGHEST = 1
     DRAWN = 2
+    ROUND = 3
 
 
 class Kind(enum.IntEnum):

@@ -13,7 +13,7 @@ use Rattle.ahci_ffi.specs.declared.status.Status.TheVariants as status
 -- the order of a number
 abbrev pub order_numbered : ℕ → Option Order
 order_numbered number =
-    if number == 0 then Some order.Lowest else (if number == 1 then Some order.Highest else (if number == 2 then Some order.Drawn else None))
+    if number == 0 then Some order.Lowest else (if number == 1 then Some order.Highest else (if number == 2 then Some order.Drawn else (if number == 3 then Some order.Round else None)))
 
 -- the tag of a set that an order names, or that the set is empty
 pub data AnswersNamed (by : Order) (set draw : ℕ) (answer : Status) (before after : ℕ) : Type 0 where

@@ -8,7 +8,7 @@ use crate::status::Status;
 use device_choice::{Order, tag_of, turn_of};
 use port_refusal::Refusal;
 
-/// The tag of a set that the order of a number names. Only `Drawn` looks at the draw.
+/// The tag of a set that the order of a number names. Only `Drawn` and `Round` look at the draw.
 pub fn choose_tag(order: u32, set: u32, draw: u64, tag: &mut u32) -> Status
     ensures { AnswersTag order set draw result tag.old tag.new }
 {
@@ -44,6 +44,7 @@ fn order_numbered(number: u32) -> Option<Order>
         0 => Some(Order::Lowest),
         1 => Some(Order::Highest),
         2 => Some(Order::Drawn),
+        3 => Some(Order::Round),
         _ => None,
     }
 }

@@ -6,10 +6,13 @@ use port_refusal::Refusal;
 /// The tags 1, 3, 4 and 9.
 const SET: u32 = 0x21A;
 
+/// The tags 1, 5 and 30.
+const ENDS: u32 = 0x4000_0022;
+
 /// An order, a set, a draw, and the tag that is named.
 struct Named(Order, u32, u64, Option<u8>);
 
-static NAMED: [Named; 14] = [
+static NAMED: [Named; 23] = [
     Named(Order::Lowest, SET, 2, Some(1)),
     Named(Order::Lowest, 0x8000_0000, 0, Some(31)),
     Named(Order::Lowest, 0, 2, None),
@@ -25,6 +28,16 @@ static NAMED: [Named; 14] = [
     Named(Order::Drawn, SET, 0xffff_ffff_ffff_ffff, Some(9)),
     Named(Order::Drawn, 0xffff_0000, 0xffff_ffff_ffff_ffff, Some(31)),
     Named(Order::Drawn, 0, 3, None),
+    Named(Order::Round, ENDS, 0, Some(1)),
+    Named(Order::Round, ENDS, 1, Some(1)),
+    Named(Order::Round, ENDS, 2, Some(5)),
+    Named(Order::Round, ENDS, 6, Some(30)),
+    Named(Order::Round, ENDS, 30, Some(30)),
+    Named(Order::Round, ENDS, 31, Some(1)),
+    Named(Order::Round, ENDS, 34, Some(5)),
+    // 2^64 - 1 is 31 modulo 32
+    Named(Order::Round, ENDS, 0xffff_ffff_ffff_ffff, Some(1)),
+    Named(Order::Round, 0, 3, None),
 ];
 
 #[test]
@@ -37,7 +50,7 @@ fn an_order_names_a_tag_of_the_set(rt: HostRuntime) {
 /// An order, the tags that are to fail, how many tags there may be, and the tags of the turn.
 struct Turn(Order, u32, u32, &'static [u8]);
 
-static TURNS: [Turn; 12] = [
+static TURNS: [Turn; 14] = [
     Turn(Order::Lowest, 0, 1, &[1]),
     Turn(Order::Lowest, 0, 3, &[1, 3, 4]),
     Turn(Order::Lowest, 0, 0xffff_ffff, &[1, 3, 4, 9]),
@@ -46,6 +59,9 @@ static TURNS: [Turn; 12] = [
     // of 4 tags number 2, of the 3 that are left number 1, of 2 number 7 modulo 2; the last has no draw
     Turn(Order::Drawn, 0, 32, &[4, 3, 9, 1]),
     Turn(Order::Drawn, 0x8, 32, &[4]),
+    // from 6 on 9, of 1, 3, 4 from 1 on 1, of 3, 4 from 7 on 3; the last has no draw
+    Turn(Order::Round, 0, 32, &[9, 1, 3, 4]),
+    Turn(Order::Round, 0x8, 32, &[9, 1]),
     Turn(Order::Lowest, 0x10, 32, &[1, 3]),
     Turn(Order::Lowest, 0x12, 32, &[1]),
     Turn(Order::Highest, 0x210, 32, &[9]),
@@ -72,7 +88,7 @@ const NONE: Status = Status::Refused(Refusal::BadTags);
 struct Answers(u32, u32, Status, Status);
 
 static ANSWERS: [Answers; 5] = [
-    Answers(3, SET, Status::BadKind, Status::BadKind),
+    Answers(4, SET, Status::BadKind, Status::BadKind),
     Answers(0xffff_ffff, 0, Status::BadKind, Status::BadKind),
     Answers(0, 0, NONE, NONE),
     Answers(2, 0, NONE, NONE),
