@@ -1,9 +1,9 @@
 -- What the moves of a command's data leave of its window.
-use Rattle.std.proofs.Common.{◌≡◌, ℕ, suc, ◌+◌, ◌≤◌, List, [], ◌∷◌, ◌++◌, length, drop, ap, sym, refl, ◌∙◌, subst, All, arith, inl}
+use Rattle.std.proofs.Common.{◌≡◌, ℕ, true, suc, ◌+◌, ◌≤◌, List, [], ◌∷◌, ◌++◌, length, drop, ap, sym, refl, ◌∙◌, subst, All, arith, inl}
 use Rattle.std.specs.List.{replace_range}
 use Rattle.std.proofs.lemmas.List.{append-nil, drop_all, length-append, length-take-le, length-drop}
 use Rattle.ahci_table.specs.declared.piece.Piece.{Piece}
-use Rattle.ahci_table.specs.Command.{queued_of}
+use Rattle.ahci_table.specs.Command.{cfis, queued_of}
 use Rattle.ahci_table.specs.Fit.{IsFit}
 use Rattle.ahci_table.specs.Piece.{end_of, total}
 use Rattle.ahci_table.specs.Prdt.{pieces}

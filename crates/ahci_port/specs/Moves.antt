@@ -1,7 +1,5 @@
 -- What the port's calls do with one slot.
-use Rattle.std.specs.Prelude.{◌≡◌, ℕ, Bool, true, false, None, Some}
-use Rattle.ahci_table.specs.Command.{cfis, queued_of}
-use Rattle.ahci_table.specs.Fit.{IsFit}
+use Rattle.std.specs.Prelude.{ℕ, Bool, true, false, None, Some}
 use Rattle.ahci_table.specs.Window.{WindowState}
 use Rattle.ncq_journal.specs.declared.outcome.Outcome.{Outcome}
 use Rattle.ncq_journal.specs.declared.outcome.Outcome.TheVariants as outcome

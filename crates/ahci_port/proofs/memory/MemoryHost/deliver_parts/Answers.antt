@@ -1,5 +1,5 @@
-use Rattle.std.proofs.Common.{◌+◌, length, ap, ◌∙◌, arith}
-use Rattle.ahci_table.specs.Text.{text, replaced}
+use Rattle.std.proofs.Common.{length, ◌∙◌, arith}
+use Rattle.ahci_table.specs.Text.{text}
 use Rattle.ahci_port.proofs.MemoryLemmas.{fit_sized, replaced_range, room_here}
 use Rattle.ahci_port.proofs.memory.MemoryHost.deliver_parts.Goals as goal
 
