@@ -5,13 +5,13 @@ mod command;
 mod error_byte;
 mod forms;
 mod help;
+mod parse;
 mod pick;
-mod reading;
 mod request;
 mod run_form;
 
 pub use command::{LAST_ENTRY, LAST_LBA, LAST_TAG, MAX_DEPTH, MAX_SECTORS, MAX_WORKERS};
+pub use parse::{asked, not_text};
 pub use pick::Pick;
-pub use reading::{asked, not_text};
 pub use request::Asked;
 pub use run_form::RunForm;

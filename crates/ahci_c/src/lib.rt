@@ -31,14 +31,14 @@ macro_rules! superseding {
 }
 
 mod alone;
+mod check;
 mod controlled;
 mod controller;
+mod create;
 mod device;
 mod events;
-mod judging;
-mod looking;
-mod making;
-mod naming;
+mod names;
+mod query;
 mod registers;
 mod software;
 #[cfg(test)]

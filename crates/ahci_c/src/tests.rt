@@ -1,8 +1,8 @@
 //! Each export that may ask for memory does what was asked where there is enough; its clause lets it lack memory at any time. No
 //! crate can use a static library, so these tests are here.
 use crate::alone::ahci_window_check;
+use crate::create::{ahci_port_free, ahci_port_new, ahci_port_new_zeros, ahci_port_resume};
 use crate::device::{ahci_port_accept, ahci_port_fail};
-use crate::making::{ahci_port_free, ahci_port_new, ahci_port_new_zeros, ahci_port_resume};
 use crate::registers::ahci_port_write_register;
 use crate::software::{
     ahci_port_flush, ahci_port_identify, ahci_port_issue, ahci_port_recover, ahci_port_submit,

@@ -5,8 +5,8 @@ ghost use Rattle.ahci_check.specs.Complaints.{IsColumn, ends_replay};
 ghost use Rattle.ahci_check.specs.Judges.{is_job_line, job_complaint, job_excess, of_job_reading};
 
 use crate::complaint::Complaint;
+use crate::complaints::{complaint_at, of_excess};
 use crate::excess::{Excess, count_excess};
-use crate::judging::{complaint_at, of_excess};
 use crate::rule::Rule;
 use ahci_script::{Breach, Job, JobLine, after_first, read_job};
 

@@ -2,8 +2,8 @@ ghost use Rattle.std.specs.Prelude.{◌≡◌, IfOk};
 ghost use Rattle.ahci_check.specs.Judges.{complaint_by, judge_after};
 
 use crate::complaint::Complaint;
+use crate::complaints::judged;
 use crate::jobs::job_complaint_of;
-use crate::judging::judged;
 use crate::place::Place;
 use ahci_script::read_line;
 use std::alloc::{AllocError, Allocator};

@@ -6,7 +6,6 @@
 #![tactic(auto)]
 
 mod drawer;
-mod drawing;
 mod entries;
 mod grid;
 mod heading;
@@ -25,6 +24,7 @@ mod strip;
 mod tag_state;
 mod tags;
 mod text;
+mod whole_drawing;
 mod words;
 
-pub use drawing::{draw, draw_with};
+pub use whole_drawing::{draw, draw_with};

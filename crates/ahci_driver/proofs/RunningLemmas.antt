@@ -20,7 +20,7 @@ use Rattle.ahci_driver.specs.Received.{Received, received_of}
 use Rattle.ahci_driver.specs.Settled.{IsSettled, IsUnsettled}
 use Rattle.ahci_driver.specs.Stopping.{AreAmong, IsStopAmong}
 use Rattle.ahci_driver.specs.declared.fault.SettleFault.{SettleFault}
-use Rattle.ahci_driver.specs.declared.running.Handed.{Handed}
+use Rattle.ahci_driver.specs.declared.whole_run.Handed.{Handed}
 use Rattle.tag_board.specs.Board.{Board}
 use Rattle.ahci_driver.specs.Crew.{AreCrew, IsWorker}
 use Rattle.ahci_driver.specs.Gathering.{HasDoneAll, OfAllDone, receipts_in}
@@ -31,7 +31,7 @@ use Rattle.ahci_driver.specs.declared.worker.Stop.{Stop}
 use Rattle.ahci_driver.specs.declared.worker.Stop.TheVariants as stop
 use Rattle.ahci_driver.specs.declared.fault.SettleFault.TheVariants as settle
 use Rattle.ahci_driver.specs.declared.run_fault.RunFault.{RunFault}
-use Rattle.ahci_driver.specs.declared.running.RunEnd.{RunEnd}
+use Rattle.ahci_driver.specs.declared.whole_run.RunEnd.{RunEnd}
 use Rattle.ahci_driver.specs.declared.run_fault.RunFault.TheVariants.{NotFresh, BadJob, OutOfMemory, Lost, Foreign, Unsettled}
 use Rattle.std.proofs.lemmas.Nat.{div-add-mod'}
 use Rattle.ahci_driver.proofs.SettlingLemmas.{mapped}

@@ -12,7 +12,7 @@ use Rattle.ahci_driver.specs.declared.run_fault.RunFault.{RunFault}
 use Rattle.ahci_driver.specs.declared.fault.SettleFault.{SettleFault}
 use Rattle.ahci_driver.specs.declared.fault.SettleFault.TheVariants as settle
 use Rattle.ahci_driver.specs.declared.run_fault.RunFault.TheVariants.{NotFresh, BadJob, OutOfMemory, Lost, Foreign, Unsettled}
-use Rattle.ahci_driver.specs.declared.running.Handed.{Handed}
+use Rattle.ahci_driver.specs.declared.whole_run.Handed.{Handed}
 use Rattle.ahci_driver.specs.declared.worker.Stop.{Stop}
 use Rattle.ahci_driver.specs.declared.worker.Stop.TheVariants as stop
 

@@ -1,6 +1,6 @@
 //! A port behind a lock, and the calls of the threads that share it.
 
-mod finishing;
+mod finish;
 
 ghost use Rattle.std.specs.Prelude.{◌≡◌, true, IfOk, IfErr, OnOk, OnErr, length};
 ghost use Rattle.ncq_journal.specs.{Laws.{AllFree}, Work.{work_of}};
@@ -9,10 +9,10 @@ ghost use Rattle.ahci_port.specs.{Faults.{Answers, trim_refusal}, Headline.{Head
 ghost use Rattle.ahci_driver.specs.{Pumping.{HasPumped}, Tickets.{answer_length}, Trimming.{IsKept}, Submitting.{HasNotSubmitted, HasReturned, HasSubmitted}};
 
 use crate::chooser::Chooser;
-use crate::collecting::collect_locked;
+use crate::collect::collect_locked;
 use crate::fault::{PumpFault, SubmitFault};
+use crate::pump::pump_locked;
 use crate::pumped::Pumped;
-use crate::pumping::pump_locked;
 use crate::ready::Ready;
 use crate::ticket::Ticket;
 use ahci_port::{CollectFault, Port, Reply, TrimFault};

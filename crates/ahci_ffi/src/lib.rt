@@ -2,30 +2,32 @@
 #![tactic(auto)]
 
 mod bare;
-mod choosing;
-mod collecting;
+mod check;
+mod choose;
+mod collection;
+mod create;
 mod entries;
 mod fises;
 mod flat;
 mod held;
-mod issuing;
-mod judging;
 mod laws;
-mod looking;
-mod making;
-mod naming;
+mod names;
 mod pages;
 mod place;
-mod recovering;
-mod standing;
+mod port_state;
+mod query;
+mod recovery;
+mod registers;
 mod status;
-mod stepping;
+mod steps;
+mod submission;
 mod windows;
-mod writing;
 
 pub use bare::Bare;
-pub use choosing::{choose_tag, choose_tags};
-pub use collecting::collect;
+pub use check::journal_check;
+pub use choose::{choose_tag, choose_tags};
+pub use collection::collect;
+pub use create::{make, make_over, make_zeros, over_refusal, size_refusal};
 pub use entries::{entry, entry_bytes};
 pub use fises::{fis_decode, fis_encode};
 pub use flat::{
@@ -33,17 +35,15 @@ pub use flat::{
     FlatWritten,
 };
 pub use held::Held;
-pub use issuing::{issue, submit};
-pub use judging::journal_check;
 pub use laws::{entries_are_judged_as_their_journal, entries_name_their_events};
-pub use looking::{copy, depth, received, register, sectors, slot, tag_sets, touched};
-pub use making::{make, make_over, make_zeros, over_refusal, size_refusal};
-pub use naming::status_text;
+pub use names::status_text;
 pub use pages::{identify_page, log_page};
 pub use place::Place;
-pub use recovering::{acknowledge, flush, identify, recover, reissue, trim};
-pub use standing::state;
+pub use port_state::state;
+pub use query::{copy, depth, received, register, sectors, slot, tag_sets, touched};
+pub use recovery::{acknowledge, flush, identify, recover, reissue, trim};
+pub use registers::{read_register, write_register};
 pub use status::Status;
-pub use stepping::{accept, fail, serve};
+pub use steps::{accept, fail, serve};
+pub use submission::{issue, submit};
 pub use windows::window_check;
-pub use writing::{read_register, write_register};

@@ -6,7 +6,7 @@ ghost use Rattle.ahci_jobs.specs.Faults.{RunReads};
 ghost use Rattle.ahci_jobs.specs.JobList.{IsListFault, IsListed};
 
 use crate::jobs_fault::JobsFault;
-use crate::making::add_line;
+use crate::parse::add_line;
 use ncq_journal::Op;
 use std::alloc::{AllocError, Allocator};
 use std::io::Read;

@@ -6,14 +6,14 @@ mod issued;
 mod job_list;
 mod jobs_fault;
 pub mod laws;
-mod making;
 mod objects;
+mod parse;
+mod run;
 mod run_size;
-mod running;
 mod script;
-mod telling;
+mod text;
 
 pub use form::Form;
 pub use jobs_fault::JobsFault;
+pub use run::{run_jobs, run_jobs_with};
 pub use run_size::RunSize;
-pub use running::{run_jobs, run_jobs_with};

@@ -5,7 +5,7 @@ ghost use Rattle.ahci_driver.specs.Received.{received_of};
 ghost use Rattle.ahci_script.specs.Results.{told};
 ghost use Rattle.ahci_jobs.specs.Objects.{answer_member, job_members, job_object, number_members, sector_object};
 
-use crate::telling::line_of;
+use crate::text::line_of;
 use ahci_driver::Receipt;
 use ahci_script::{ResultLine, push_result};
 use std::alloc::{AllocError, Allocator};

@@ -1,16 +1,16 @@
 //! The port: what it holds, how one is made, and the calls that read it.
 
-mod collecting;
-mod issuing;
-mod looking;
-mod recovering;
-mod resetting;
-mod serving;
-mod stepping;
-mod submitting;
-mod trimming;
-mod writing;
-mod zeroing;
+mod collect;
+mod issue;
+mod query;
+mod recover;
+mod registers;
+mod reset;
+mod serve;
+mod step;
+mod submit;
+mod trim;
+mod zero;
 
 ghost use Rattle.std.specs.Prelude.{◌≡◌, ◌/◌, ◌<◌, ◌≤◌, None, length, replicate, IfOk};
 ghost use Rattle.ahci_regs.specs.Reading.{read_of};

@@ -7,7 +7,7 @@ ghost use Rattle.ncq_core.specs.Verdict.{verdict};
 ghost use Rattle.ncq_core.specs.declared.taken.Taken.TheVariants as taken;
 ghost use Rattle.ahci_port.specs.{Carrying.{HasRead, Passes, area_after, carried, disk_after, told}, Registers.{after_write}, Unqueued.{cfis_for, entries_for, header_for, sent_for}};
 
-use crate::receiving::{receive_pio, receive_register};
+use crate::receive::{receive_pio, receive_register};
 use crate::sent::Sent;
 use crate::software::write;
 use ahci_regs::{PortRegs, Register};

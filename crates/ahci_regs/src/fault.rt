@@ -1,10 +1,9 @@
-use port_refusal::Refusal;
-use std::error::Error;
-use std::fmt;
-use std::fmt::{Display, Formatter, Write};
+use port_refusal::{Refusal, same_name};
+use thiserror::Error;
 
 /// Why a register access is refused, in the order in which the rules are tested.
-#[derive(Clone, Copy, PartialEq, Eq, Debug)]
+#[derive(Clone, Copy, PartialEq, Eq, Debug, Error)]
+#[error("{}", Refusal::from(*self))]
 pub enum RegFault {
     /// The offset isn't a multiple of 4.
     Unaligned,
@@ -25,20 +24,6 @@ impl From<RegFault> for Refusal {
     ghost from_gives = { λ fault refusal. refusal ≡ of_register fault };
 
     fn from(fault: RegFault) -> Refusal {
-        match fault {
-            RegFault::Unaligned => Refusal::Unaligned,
-            RegFault::NoSuchRegister => Refusal::NoSuchRegister,
-            RegFault::NotStarted => Refusal::NotStarted,
-            RegFault::NotReceiving => Refusal::NotReceiving,
-            RegFault::Running => Refusal::Running,
-        }
+        same_name!(fault, RegFault: Unaligned, NoSuchRegister, NotStarted, NotReceiving, Running)
     }
 }
-
-impl Display for RegFault {
-    fn fmt<W: Write>(&self, f: &mut Formatter<W>) -> Result<(), fmt::Error> {
-        Refusal::from(*self).fmt(f)
-    }
-}
-
-impl Error for RegFault {}

@@ -7,8 +7,8 @@ ghost use Rattle.ahci_script.specs.Said.{said};
 ghost use Rattle.ahci_replay.specs.Commands.{MakesDisk, MayLack, MayRun, Runs, is_in_place};
 ghost use Rattle.ahci_replay.specs.Refusals.{disk_refusal};
 
-use crate::issuing::uniform_sectors;
-use crate::running::run_on;
+use crate::issue::uniform_sectors;
+use crate::run::run_on;
 use crate::unanswered::Unanswered;
 use ahci_port::{MOST_FIRST, Port, ResumeFault};
 use ahci_script::{Refusal, ScriptAnswer, ScriptCommand};

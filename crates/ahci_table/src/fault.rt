@@ -1,6 +1,6 @@
 //! Why no window is built, and which rule a window breaks.
 
-use port_refusal::Refusal;
+use port_refusal::{Refusal, same_name};
 use std::alloc::AllocError;
 use thiserror::Error;
 
@@ -70,11 +70,6 @@ impl From<TableFault> for Refusal {
     ghost from_gives = { λ fault refusal. refusal ≡ of_table fault };
 
     fn from(fault: TableFault) -> Refusal {
-        match fault {
-            TableFault::BadHeader => Refusal::BadHeader,
-            TableFault::BadCommand => Refusal::BadCommand,
-            TableFault::WrongTag => Refusal::WrongTag,
-            TableFault::BadList => Refusal::BadList,
-        }
+        same_name!(fault, TableFault: BadHeader, BadCommand, WrongTag, BadList)
     }
 }

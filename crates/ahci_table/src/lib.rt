@@ -2,20 +2,20 @@
 //! built from a command and a list of pieces, or taken from any bytes; it is checked, and data is moved in and out of it.
 #![tactic(auto)]
 
-mod building;
-mod checking;
+mod build;
+mod check;
 mod command;
 mod defaults;
 mod entry;
 mod fault;
 mod header;
 pub mod laws;
-mod laying;
+mod lay;
 mod list;
-mod moving;
 mod piece;
-mod refusing;
+mod refusal;
 mod runs;
+mod scatter;
 mod window;
 
 pub use command::Command;
@@ -23,5 +23,5 @@ pub use defaults::default_pieces;
 pub use fault::{BuildFault, TableFault};
 pub use ncq_journal::OutOfMemory;
 pub use piece::Piece;
-pub use refusing::default_fault;
+pub use refusal::default_fault;
 pub use window::{MAX_BYTES, Window};

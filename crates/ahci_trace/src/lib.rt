@@ -5,7 +5,7 @@
 mod appended;
 mod as_json;
 mod change;
-mod closing;
+mod close;
 mod command_trace;
 mod kinds;
 pub mod laws;
@@ -18,7 +18,7 @@ mod register_write;
 mod sent;
 mod served;
 mod shown;
-mod tracing;
+mod tracer;
 mod transfer;
 
 pub use appended::Appended;
@@ -29,4 +29,4 @@ pub use owned::OwnedSlot;
 pub use received::Received;
 pub use register_write::RegisterWrite;
 pub use sent::SentCommand;
-pub use tracing::{Tracer, trace, trace_json, trace_json_with, trace_with};
+pub use tracer::{Tracer, trace, trace_json, trace_json_with, trace_with};

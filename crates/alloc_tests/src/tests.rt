@@ -1,4 +1,3 @@
-mod building;
 mod commands;
 mod driver;
 mod heap;
@@ -7,6 +6,7 @@ mod journal;
 mod ports;
 mod programs;
 mod runs;
-mod settling;
+mod settle;
 mod shown;
 mod unasked;
+mod windows;

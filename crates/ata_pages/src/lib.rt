@@ -9,9 +9,9 @@ mod log_text;
 mod names;
 mod page_fault;
 mod word_lines;
-mod writing;
+mod write;
 
 pub use identify_text::IdentifyText;
 pub use log_text::LogText;
 pub use page_fault::PageFault;
-pub use writing::{write_identify, write_identify_with, write_log, write_log_with};
+pub use write::{write_identify, write_identify_with, write_log, write_log_with};

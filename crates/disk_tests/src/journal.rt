@@ -1,13 +1,13 @@
 //! The worked stories of the model, from events written by hand: orders, strangers, errors and recoveries.
-mod counting;
-mod telling;
+mod count;
+mod story;
 
 use Look::{Byte, Entries, Owed, Stands, Tags};
 use Note::{Accept, Collect, Complete, Fail as Failing, Read, Recover, Reissue, Write, Zero};
 use Step::{Answer, Failure, Falling, Never, Next, Rising, Shows};
 use ncq_journal::{Outcome, Phase, Plain};
 use std::test::Fail;
-use telling::{Look, Note, Step, tells};
+use story::{Look, Note, Step, tells};
 
 static TWO_WRITES: [Step; 9] = [
     Next(&[Write(0, 3, 0xaa), Write(1, 3, 0xbb)]),

@@ -6,6 +6,6 @@ mod gates;
 mod job_lists;
 mod jobs;
 mod one_seat;
-mod reading;
+mod read;
 mod runs;
-mod trimming;
+mod trim;

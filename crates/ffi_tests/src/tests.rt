@@ -1,9 +1,9 @@
 mod alone;
-mod choosing;
+mod choose;
+mod create;
 mod guest;
 mod heap;
 mod kinds;
-mod making;
 mod refusals;
 mod refused;
 mod seen;

@@ -4,7 +4,7 @@ ghost use Rattle.std.specs.Prelude.{◌≡◌, ◌≤◌, ◌<◌, drop, get_or,
 ghost use Rattle.hba_memory.specs.Blocks.{list_after, no_entry, shortened};
 
 use crate::lengths::total;
-use crate::processing::has_processed;
+use crate::processed::has_processed;
 use crate::scatter::Scatter;
 use hba_command::PrdEntry;
 use std::alloc::{AllocError, Allocator, Global};

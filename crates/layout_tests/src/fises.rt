@@ -1,5 +1,5 @@
 //! FISes as bytes and as values: examples, every length and every change of one byte.
-mod asking;
+mod asked;
 mod checker;
 mod examples;
 

@@ -1,8 +1,8 @@
 //! Windows: what is built, checked and moved.
-mod building;
+mod build;
 mod hostile;
 mod lists;
-mod moving;
+mod scatter;
 
 use crate::table::equal;
 use ahci_table::{BuildFault, Piece, Window};

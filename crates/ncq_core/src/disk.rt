@@ -1,12 +1,12 @@
 //! The queueing disk: its image, its outstanding tags, its error.
 
 mod answers;
+mod data;
 mod error;
 mod identify;
 mod log;
-mod moving;
-mod serving;
-mod taking;
+mod serve;
+mod take;
 
 ghost use Rattle.std.specs.Prelude.{◌≡◌, ◌⊎◌, ◌+◌, ◌*◌, ◌/◌, ◌<◌, ◌≤◌, ◌^◌, None, Some, false, true, ◌&&◌, length, is_some, IfOk, IfErr, IfSome, OnOk, OnErr};
 ghost use Rattle.std.specs.Option.{option_copied};
@@ -19,10 +19,10 @@ ghost use Rattle.ncq_core.specs.Serving.{HasRoom};
 ghost use Rattle.ncq_core.specs.Verdict.{stopped_by};
 ghost use Rattle.ncq_core.specs.Identify.{identify_page};
 
+use crate::disk::data::DATA_FIS;
 use crate::disk::error::DiskError;
 pub use crate::disk::identify::identify_page;
 pub use crate::disk::log::log_page;
-use crate::disk::moving::DATA_FIS;
 use crate::disk_fault::DiskFault;
 use ncq_journal::Journal;
 use sata_fis::Queued;

@@ -1,11 +1,10 @@
-use port_refusal::Refusal;
+use port_refusal::{Refusal, same_name};
 use std::alloc::AllocError;
-use std::error::Error;
-use std::fmt;
-use std::fmt::{Display, Formatter, Write};
+use thiserror::Error;
 
 /// Why no disk was made. The cases are tested in this order.
-#[derive(Clone, Copy, Debug, PartialEq, Eq)]
+#[derive(Clone, Copy, Debug, PartialEq, Eq, Error)]
+#[error("{}", Refusal::from(*self))]
 pub enum DiskFault {
     /// The image is not 1 to 131,072 whole sectors of 512 bytes, or the store has no sectors or more than 2^32 - 1.
     BadSize,
@@ -33,18 +32,6 @@ impl From<DiskFault> for Refusal {
     ghost from_gives = { λ fault refusal. refusal ≡ of_disk fault };
 
     fn from(fault: DiskFault) -> Refusal {
-        match fault {
-            DiskFault::BadSize => Refusal::BadSize,
-            DiskFault::BadDepth => Refusal::BadDepth,
-            DiskFault::OutOfMemory => Refusal::OutOfMemory,
-        }
+        same_name!(fault, DiskFault: BadSize, BadDepth, OutOfMemory)
     }
 }
-
-impl Display for DiskFault {
-    fn fmt<W: Write>(&self, f: &mut Formatter<W>) -> Result<(), fmt::Error> {
-        Refusal::from(*self).fmt(f)
-    }
-}
-
-impl Error for DiskFault {}

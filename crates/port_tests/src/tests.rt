@@ -1,11 +1,11 @@
-mod comparing;
+mod compare;
 mod errors;
 mod hostile;
 mod lists;
-mod resetting;
+mod registers;
+mod reset;
 mod scattered;
 mod stories;
+mod story;
 mod table;
-mod telling;
 mod texts;
-mod writing;

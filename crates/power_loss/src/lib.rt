@@ -2,6 +2,6 @@
 #![tactic(auto)]
 
 pub mod laws;
-mod leaving;
+mod left;
 
-pub use leaving::may_be_left;
+pub use left::may_be_left;

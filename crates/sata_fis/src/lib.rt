@@ -11,24 +11,24 @@
 
 mod command;
 mod d2h;
-mod decoding;
+mod decoder;
 mod dma_setup;
-mod encoding;
+mod encoder;
 mod fault;
 mod fis;
 mod h2d;
 mod payload;
 mod pio_setup;
 mod places;
-mod queueing;
+mod queued_command;
 mod ranges;
 mod set_bits;
 
 pub use command::Queued;
 pub use d2h::D2h;
-pub use decoding::{d2h_at, decode, one_answer, pio_setup_at, set_bits_at};
+pub use decoder::{d2h_at, decode, one_answer, pio_setup_at, set_bits_at};
 pub use dma_setup::DmaSetup;
-pub use encoding::{
+pub use encoder::{
     d2h_bytes, data_head, dma_activate_bytes, dma_setup_bytes, h2d_bytes, pio_setup_bytes,
     set_bits_bytes,
 };
@@ -38,6 +38,6 @@ pub use h2d::H2d;
 pub use payload::Payload;
 pub use pio_setup::PioSetup;
 pub use places::is_set;
-pub use queueing::{h2d_of, queued};
+pub use queued_command::{h2d_of, queued};
 pub use ranges::{is_lba, is_sector_count, is_set_bits_status, is_tag};
 pub use set_bits::SetBits;

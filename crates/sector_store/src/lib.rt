@@ -4,7 +4,7 @@
 
 mod base;
 mod branch;
-mod changing;
+mod change;
 mod layer;
 mod leaf;
 mod page;
@@ -16,7 +16,7 @@ mod single;
 mod slot;
 mod table;
 mod whole;
-mod zeroing;
+mod zero_sectors;
 
 pub use base::{Base, Buffer, Zeros};
 pub use pages::Pages;

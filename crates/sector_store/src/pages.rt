@@ -1,10 +1,10 @@
 //! A disk of pages, of which those alone are in memory that were written.
 
-mod keeping;
-mod reading;
-mod reserving;
-mod writing;
-mod zeroing;
+mod keep;
+mod read;
+mod reserve;
+mod write;
+mod zero;
 
 ghost use Rattle.std.specs.Prelude.{◌≡◌, ℕ, ◌*◌, ◌≤◌, true, refl, IfOk};
 ghost use Rattle.sector_store.specs.Slots.{slot_at, table_span};

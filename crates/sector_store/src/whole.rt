@@ -4,7 +4,7 @@ ghost use Rattle.std.specs.Prelude.{◌≡◌, ℕ, ◌+◌, ◌*◌, ◌/◌, �
 
 use crate::run::run_at;
 use crate::sector_store::SectorStore;
-use crate::zeroing::zero_sectors;
+use crate::zero_sectors::zero_sectors;
 use ncq_journal::{Journal, read_sectors, write_sectors};
 use std::alloc::{AllocError, Allocator, Global};
 

@@ -1,4 +1,4 @@
-mod zeroing;
+mod zero;
 
 ghost use Rattle.std.specs.Prelude.{◌≡◌, length};
 

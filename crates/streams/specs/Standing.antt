@@ -4,7 +4,7 @@ use Rattle.std.specs.Io.KnownBytes.{Consumes}
 use Rattle.streams.specs.Reading.{Comes, MayEnd, Step, Taken, last_of}
 use Rattle.streams.specs.Unread.{Begins, MayFail, found_of, unfinished, with_feeds}
 use Rattle.streams.specs.declared.input.TheConstants.{INPUT_LIMIT}
-use Rattle.streams.specs.declared.reading.Reading.{Reading}
+use Rattle.streams.specs.declared.lines.Reading.{Reading}
 use Rattle.streams.specs.declared.stopped.Stopped.{Stopped}
 use Rattle.streams.specs.declared.stopped.Stopped.TheVariants as stopped
 

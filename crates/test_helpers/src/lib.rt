@@ -2,8 +2,8 @@
 //! and readers and a writer that fail.
 #![tactic(auto)]
 
-mod failing;
-mod filling;
+mod fail_steps;
+mod fill;
 mod full;
 mod job;
 mod read_failure;
@@ -11,8 +11,8 @@ mod source;
 mod table_step;
 mod window_parts;
 
-pub use failing::{FAIL_0, FAIL_1, FAIL_1_AT_7, FAIL_1_AT_8};
-pub use filling::byte_of;
+pub use fail_steps::{FAIL_0, FAIL_1, FAIL_1_AT_7, FAIL_1_AT_8};
+pub use fill::byte_of;
 pub use full::Full;
 pub use job::{Job, TWELVE, ops_of};
 pub use read_failure::ReadFailure;

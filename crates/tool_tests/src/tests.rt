@@ -1,5 +1,5 @@
 mod drawn;
-mod failing;
+mod failures;
 mod lines;
 mod pages;
 mod scripts;

@@ -6,8 +6,8 @@ ghost use Rattle.ahci_hba.specs.Events.{bits_fis, device_plugged, device_unplugg
 use crate::ending::Ending;
 use crate::fault::HbaFault;
 use crate::hba::Hba;
-use crate::hba::answering::{REGISTER, SET_BITS, UNKNOWN};
-use crate::hba::delivering::d2h_fis;
+use crate::hba::answer::{REGISTER, SET_BITS, UNKNOWN};
+use crate::hba::deliver::d2h_fis;
 use crate::last_fis::LastFis;
 use crate::work::Work;
 use ahci_port::Journal;

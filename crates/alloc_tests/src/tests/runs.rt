@@ -4,7 +4,7 @@ use crate::tests::commands::port_of;
 use crate::tests::driver::WINDOW;
 use crate::tests::heap::{Heap, equal, grant_all};
 use crate::tests::jobs::{Jobs, Way, crowd};
-use crate::tests::settling::CLAIMED;
+use crate::tests::settle::CLAIMED;
 use ahci_driver::{Gate, Open, Receipt, RunFault, run};
 use refusing_allocator::{Refusals, Refusing};
 use std::alloc::Global;

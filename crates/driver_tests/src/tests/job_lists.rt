@@ -1,4 +1,4 @@
 //! Job lists as text in and text out: worked ones, and readers and writers that fail.
 mod crews;
-mod failing;
+mod failures;
 mod worked;

@@ -1,11 +1,11 @@
 //! How much memory a command takes when its command FIS is read: room for the entries of its PRDT, and for the bytes of a write.
 
 use crate::tests::guest::{Guest, slot_of, supply};
-use crate::tests::playing::Pieces::These;
-use crate::tests::playing::Row::Lays;
-use crate::tests::playing::{Pieces, Row, acts, write};
+use crate::tests::player::Pieces::These;
+use crate::tests::player::Row::Lays;
+use crate::tests::player::{Pieces, Row, acts, write};
 use crate::tests::registers::PX_CI;
-use crate::tests::setting::{MEMORY, ONE, OTHER, READ, SECTOR, START, WRITE};
+use crate::tests::settings::{MEMORY, ONE, OTHER, READ, SECTOR, START, WRITE};
 use crate::tests::shown::{Heap, SECTORS};
 use ahci_hba::Hba;
 use refusing_allocator::{Refusals, Refusing};

@@ -1,9 +1,9 @@
 //! Commands that move no data, and how each is answered (ACS-3, by their titles).
 
-use crate::tests::playing::Row::{Does, Has, Lays, Reads, Refuses, Writes};
-use crate::tests::playing::{Player, Row, Story, plays};
+use crate::tests::player::Row::{Does, Has, Lays, Reads, Refuses, Writes};
+use crate::tests::player::{Player, Row, Story, plays};
 use crate::tests::registers::{PX_CI, PX_IS, PX_TFD};
-use crate::tests::setting::{
+use crate::tests::settings::{
     MEMORY, NO_PIECES, NONE, ONE, RECEIVED, RESTART, SECTOR, START, TABLE,
 };
 use std::process::Abort;

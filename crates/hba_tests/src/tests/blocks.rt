@@ -1,12 +1,12 @@
 //! Transfers by PIO, block by block (Serial ATA, "PIO Setup"; ACS-3, "PIO data-in command protocol" and "PIO data-out command protocol").
 
-use crate::tests::playing::Pieces::These;
-use crate::tests::playing::Row::{
+use crate::tests::player::Pieces::These;
+use crate::tests::player::Row::{
     Does, Fills, Has, HasAll, Lays, Reads, ReadsBits, Sector, Steps, Writes,
 };
-use crate::tests::playing::{Pieces, Row, Story, plays};
+use crate::tests::player::{Pieces, Row, Story, plays};
 use crate::tests::registers::{PX_CI, PX_CMD, PX_IS, PX_TFD};
-use crate::tests::setting::{COMRESET, DATA, LIST, MEMORY, RECEIVED, START, TABLE};
+use crate::tests::settings::{COMRESET, DATA, LIST, MEMORY, RECEIVED, START, TABLE};
 use std::test::Fail;
 
 /// Three sectors, in two pieces: the second sector lies in both.

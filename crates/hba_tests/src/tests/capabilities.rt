@@ -1,9 +1,9 @@
 //! What a controller with other capabilities does (AHCI 1.3.1, section 3.1.1).
 
-use crate::tests::playing::Row::{Does, Fills, Lays, Reads, Sector, Signs, Writes};
-use crate::tests::playing::{Player, Row, Story};
+use crate::tests::player::Row::{Does, Fills, Lays, Reads, Sector, Signs, Writes};
+use crate::tests::player::{Player, Row, Story};
 use crate::tests::registers::{CAP, GHC, PX_CI, PX_CLB, PX_CLBU, PX_CMD, PX_FB, PX_SACT, PX_SSTS};
-use crate::tests::setting::{DATA, LIST, MEMORY, SECTOR, START, TABLE, WRITE};
+use crate::tests::settings::{DATA, LIST, MEMORY, SECTOR, START, TABLE, WRITE};
 use ahci_hba::Capabilities;
 use std::test::Fail;
 

@@ -1,12 +1,12 @@
 //! Stories of commands that are not queued (ACS-3, by their titles).
 
-use crate::tests::playing::Pieces::These;
-use crate::tests::playing::Row::{
+use crate::tests::player::Pieces::These;
+use crate::tests::player::Row::{
     Does, Fills, Has, HasAll, Last, Lays, Reads, ReadsBits, Refuses, Sector, Takes, Writes,
 };
-use crate::tests::playing::{Pieces, Player, Row, Story, plays};
+use crate::tests::player::{Pieces, Player, Row, Story, plays};
 use crate::tests::registers::{PX_CI, PX_CMD, PX_IS, PX_SACT, PX_TFD};
-use crate::tests::setting::{
+use crate::tests::settings::{
     DATA, IDENTIFY, LIST, MEMORY, NO_PIECES, NONE, ONE, OTHER, READ, READ_DMA, READ_LOG, RECEIVED,
     RESTART, SECTOR, START, TABLE,
 };

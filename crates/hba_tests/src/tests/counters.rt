@@ -1,12 +1,12 @@
 //! What log 11h counts (Serial ATA, "Phy Event Counters").
 
-use crate::tests::playing::Row::{
+use crate::tests::player::Row::{
     Answered, Does, Fails, Fetches, Has, HasAll, Lays, Reads, Refuses, Signs, Takes, Writes,
 };
-use crate::tests::playing::{Player, Row, Story};
+use crate::tests::player::{Player, Row, Story};
 use crate::tests::registers::{GHC, PX_CI, PX_SACT};
 use crate::tests::resets::SOFTWARE_RESET;
-use crate::tests::setting::{
+use crate::tests::settings::{
     COMRESET, DATA, MEMORY, ONE, OTHER, READ, READ_DMA, READ_LOG, RESTART, SECTOR, START, TABLE,
 };
 use std::test::Fail;

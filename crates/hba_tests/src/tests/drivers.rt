@@ -1,6 +1,6 @@
 //! Recorded drivers, each from power-on to its data. What a read answers is what AHCI 1.3.1 and docs/LAYOUTS.md say of it.
 
-use crate::tests::playing::plays;
+use crate::tests::player::plays;
 use crate::tests::{edk2, grub, linux, linux_error, seabios};
 use std::test::Fail;
 

@@ -1,11 +1,11 @@
 //! EDK2 2022.11, as OVMF: its accesses as they were recorded up to the port's bases. Of those that follow the recording has how often each
 //! comes, and that four writes of PxCMD are around each command: 16h, 4017h, C016h and 4006h.
 
-use crate::tests::playing::Pieces::These;
-use crate::tests::playing::Row::{
+use crate::tests::player::Pieces::These;
+use crate::tests::player::Row::{
     Does, Fills, Has, HasAll, Lays, Reads, ReadsBits, Sector, Signs, Writes,
 };
-use crate::tests::playing::{Pieces, Row, Story};
+use crate::tests::player::{Pieces, Row, Story};
 use crate::tests::registers::{
     CAP, GHC, IS, PI, PX_CI, PX_CLB, PX_CLBU, PX_CMD, PX_FB, PX_FBU, PX_IE, PX_IS, PX_SCTL,
     PX_SERR, PX_SIG, PX_SSTS, PX_TFD,

@@ -1,12 +1,10 @@
 //! Stories of what ends a command in a fatal error (AHCI 1.3.1, section 6.1).
 
-use crate::tests::playing::Pieces::These;
-use crate::tests::playing::Row::{
-    Does, Fills, Has, HasAll, Lays, Reads, ReadsBits, Sector, Writes,
-};
-use crate::tests::playing::{Row, Story, plays};
+use crate::tests::player::Pieces::These;
+use crate::tests::player::Row::{Does, Fills, Has, HasAll, Lays, Reads, ReadsBits, Sector, Writes};
+use crate::tests::player::{Row, Story, plays};
 use crate::tests::registers::{PX_CI, PX_IS, PX_SACT, PX_TFD};
-use crate::tests::setting::{
+use crate::tests::settings::{
     COMRESET, DATA, LIST, MEMORY, ONE, OTHER, READ, READ_DMA, RESTART, SECTOR, START, TABLE, WRITE,
 };
 use std::test::Fail;

@@ -1,11 +1,11 @@
 //! GRUB 2.06 with its own driver, after SeaBIOS: its accesses as they were recorded. The recording has no addresses of its commands, and
 //! these are chosen.
 
-use crate::tests::playing::Pieces::These;
-use crate::tests::playing::Row::{
+use crate::tests::player::Pieces::These;
+use crate::tests::player::Row::{
     Does, Fills, Has, HasAll, Lays, Reads, ReadsBits, Sector, Signs, Writes,
 };
-use crate::tests::playing::{Pieces, Row, Story};
+use crate::tests::player::{Pieces, Row, Story};
 use crate::tests::registers::{
     PX_CI, PX_CLB, PX_CLBU, PX_CMD, PX_FB, PX_FBU, PX_IE, PX_IS, PX_SACT, PX_SERR, PX_SSTS, PX_TFD,
 };

@@ -1,12 +1,12 @@
 //! Stories of the logs that are the host's (ACS-3, "Host Specific logs", "WRITE LOG EXT" and "SMART WRITE LOG").
 
-use crate::tests::playing::Pieces::These;
-use crate::tests::playing::Row::{
+use crate::tests::player::Pieces::These;
+use crate::tests::player::Row::{
     Answered, Does, Fetches, Fills, Has, HasAll, Lays, Reads, Steps, Writes,
 };
-use crate::tests::playing::{Pieces, Row, Story, plays};
+use crate::tests::player::{Pieces, Row, Story, plays};
 use crate::tests::registers::{GHC, PX_CI, PX_IS, PX_TFD};
-use crate::tests::setting::{
+use crate::tests::settings::{
     COMRESET, DATA, LIST, MEMORY, NO_PIECES, NONE, ONE, RECEIVED, RESTART, SECTOR, START, TABLE,
 };
 use std::test::Fail;

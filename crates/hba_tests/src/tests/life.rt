@@ -1,12 +1,12 @@
 //! The life of a controller, call by call, with how many allocations each meets.
 
-use crate::tests::playing::Pieces::These;
-use crate::tests::playing::Row::{Fills, Has, HasAll, Lays};
-use crate::tests::playing::{Pieces, Row};
+use crate::tests::player::Pieces::These;
+use crate::tests::player::Row::{Fills, Has, HasAll, Lays};
+use crate::tests::player::{Pieces, Row};
 use crate::tests::registers::{
     GHC, PX_CI, PX_CLB, PX_CMD, PX_FB, PX_IE, PX_IS, PX_SACT, PX_SCTL, PX_SERR,
 };
-use crate::tests::setting::{
+use crate::tests::settings::{
     DATA, IDENTIFY, NO_PIECES, NONE, ONE, OTHER, READ, READ_DMA, READ_LOG, SECTOR, TABLE, WRITE,
 };
 

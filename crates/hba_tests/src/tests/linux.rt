@@ -1,10 +1,10 @@
 //! Linux 6.1, libahci: its accesses from power-on to its first queued read and write, as they were recorded.
 
-use crate::tests::playing::Pieces::These;
-use crate::tests::playing::Row::{
+use crate::tests::player::Pieces::These;
+use crate::tests::player::Row::{
     Does, Fills, Has, HasAll, Interrupt, Lays, Reads, ReadsBits, Sector, Signs, Takes, Writes,
 };
-use crate::tests::playing::{Row, Story};
+use crate::tests::player::{Row, Story};
 use crate::tests::registers::{
     CAP, GHC, IS, PI, PX_CI, PX_CLB, PX_CLBU, PX_CMD, PX_FB, PX_FBU, PX_IE, PX_IS, PX_SACT,
     PX_SCTL, PX_SERR, PX_SIG, PX_SSTS, PX_TFD, VS,

@@ -1,12 +1,12 @@
 //! Linux 6.1, libahci: its way back from a queued command that has failed with UNC, as it was recorded, of four commands in place of
 //! fifteen. The recording names the failed command by its tag and sector; where its data go is chosen.
 
-use crate::tests::playing::Pieces::These;
-use crate::tests::playing::Row::{
+use crate::tests::player::Pieces::These;
+use crate::tests::player::Row::{
     Does, Fails, Fills, Has, HasAll, Interrupt, Lays, Reads, ReadsBits, Sector, Signs, Takes,
     Writes,
 };
-use crate::tests::playing::{Pieces, Row, Story};
+use crate::tests::player::{Pieces, Row, Story};
 use crate::tests::registers::{
     GHC, IS, PX_CI, PX_CLB, PX_CMD, PX_FB, PX_IE, PX_IS, PX_SACT, PX_SERR, PX_SSTS, PX_TFD,
 };

@@ -1,13 +1,13 @@
 //! Stories of PRDTs: long ones, and addresses above 4 GiB (AHCI 1.3.1, section 4.2.3).
 
 use crate::tests::guest::Stretch;
-use crate::tests::playing::Pieces::{Down, These, Up};
-use crate::tests::playing::Row::{Does, Fills, Has, HasAll, Lays, Reads, Sector, Signs, Writes};
-use crate::tests::playing::{Row, Story, plays};
+use crate::tests::player::Pieces::{Down, These, Up};
+use crate::tests::player::Row::{Does, Fills, Has, HasAll, Lays, Reads, Sector, Signs, Writes};
+use crate::tests::player::{Row, Story, plays};
 use crate::tests::registers::{
     PX_CI, PX_CLB, PX_CLBU, PX_CMD, PX_FB, PX_FBU, PX_IS, PX_SACT, PX_SERR,
 };
-use crate::tests::setting::{
+use crate::tests::settings::{
     DATA, MEMORY, ONE, OTHER, READ, READ_DMA, RESTART, SECTOR, START, TABLE,
 };
 use std::test::Fail;

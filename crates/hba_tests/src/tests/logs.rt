@@ -1,10 +1,10 @@
 //! Stories of the logs (ACS-3, "General Purpose Log directory" and "IDENTIFY DEVICE data log").
 
-use crate::tests::playing::Pieces::These;
-use crate::tests::playing::Row::{Does, Fills, Has, HasAll, Lays, Reads, Steps, Writes};
-use crate::tests::playing::{Row, Story, plays};
+use crate::tests::player::Pieces::These;
+use crate::tests::player::Row::{Does, Fills, Has, HasAll, Lays, Reads, Steps, Writes};
+use crate::tests::player::{Row, Story, plays};
 use crate::tests::registers::{PX_CI, PX_IS, PX_TFD};
-use crate::tests::setting::{DATA, IDENTIFY, LIST, MEMORY, ONE, RECEIVED, SECTOR, START, TABLE};
+use crate::tests::settings::{DATA, IDENTIFY, LIST, MEMORY, ONE, RECEIVED, SECTOR, START, TABLE};
 use std::test::Fail;
 
 /// Logs 80h to 9Fh, which are the host's, of 16 pages each.

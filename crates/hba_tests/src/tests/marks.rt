@@ -1,12 +1,12 @@
 //! Sectors that WRITE UNCORRECTABLE EXT marks: a read fails at one until it is written (ACS-3, "WRITE UNCORRECTABLE EXT").
 
-use crate::tests::playing::Pieces::These;
-use crate::tests::playing::Row::{
+use crate::tests::player::Pieces::These;
+use crate::tests::player::Row::{
     Answered, Does, Fills, Has, HasAll, Last, Lays, Reads, Sector, Writes,
 };
-use crate::tests::playing::{Pieces, Player, Row, Story, equal, plays};
+use crate::tests::player::{Pieces, Player, Row, Story, equal, plays};
 use crate::tests::registers::{GHC, PX_CI, PX_SACT, PX_TFD};
-use crate::tests::setting::{
+use crate::tests::settings::{
     DATA, LIST, MEMORY, NO_PIECES, NONE, ONE, OTHER, READ, READ_DMA, READ_LOG, RECEIVED, RESTART,
     SECTOR, START, TABLE, WRITE,
 };

@@ -1,13 +1,13 @@
 //! A command that is not queued comes while queued ones are outstanding (ACS-3, "Native Command Queuing" and "NCQ Command Error log").
 
-use crate::tests::playing::Row::{
+use crate::tests::player::Row::{
     Answered, Does, Fetches, Fills, Has, HasAll, Lays, Reads, ReadsBits, Refuses, Sector, Takes,
     Writes,
 };
-use crate::tests::playing::{Row, Story, plays};
+use crate::tests::player::{Row, Story, plays};
 use crate::tests::registers::{PX_CI, PX_IS, PX_SACT, PX_TFD};
 use crate::tests::resets::SOFTWARE_RESET;
-use crate::tests::setting::{
+use crate::tests::settings::{
     COMRESET, DATA, IDENTIFY, MEMORY, ONE, OTHER, READ, READ_DMA, READ_LOG, RESTART, SECTOR, START,
     TABLE, WRITE,
 };

@@ -1,12 +1,12 @@
 //! READ and WRITE MULTIPLE, whose blocks have as many sectors as SET MULTIPLE MODE has set (ACS-3, by the commands' titles; Serial ATA, "PIO Setup").
 
 use crate::tests::blocks::{FILLED, SERVED, THREE};
-use crate::tests::playing::Pieces::These;
-use crate::tests::playing::Row::{Does, Fills, Has, HasAll, Lays, Reads, Sector, Steps, Writes};
-use crate::tests::playing::{Row, Story, plays};
+use crate::tests::player::Pieces::These;
+use crate::tests::player::Row::{Does, Fills, Has, HasAll, Lays, Reads, Sector, Steps, Writes};
+use crate::tests::player::{Row, Story, plays};
 use crate::tests::registers::{PX_CI, PX_IS, PX_TFD};
 use crate::tests::resets::SOFTWARE_RESET;
-use crate::tests::setting::{
+use crate::tests::settings::{
     COMRESET, DATA, IDENTIFY, LIST, MEMORY, NO_PIECES, NONE, ONE, RECEIVED, RESTART, SECTOR, START,
     TABLE,
 };

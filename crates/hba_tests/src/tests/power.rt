@@ -1,10 +1,10 @@
 //! Stories of the power modes (ACS-3, "Power Management feature set", and the commands by their titles).
 
-use crate::tests::playing::Row::{Does, Fills, HasAll, Lays, Reads, ReadsBits, Writes};
-use crate::tests::playing::{Player, Row, Story, plays};
+use crate::tests::player::Row::{Does, Fills, HasAll, Lays, Reads, ReadsBits, Writes};
+use crate::tests::player::{Player, Row, Story, plays};
 use crate::tests::registers::{PX_CI, PX_CMD, PX_IS, PX_SACT, PX_TFD};
 use crate::tests::resets::{HBA_RESET, SOFTWARE_RESET};
-use crate::tests::setting::{
+use crate::tests::settings::{
     COMRESET, DATA, IDENTIFY, MEMORY, NO_PIECES, NONE, ONE, OTHER, READ, RECEIVED, RESTART, SECTOR,
     START, TABLE,
 };

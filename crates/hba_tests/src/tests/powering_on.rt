@@ -1,13 +1,13 @@
 //! Power-on of a controller that a driver uses, at different moments.
 
-use crate::tests::playing::Row::{
+use crate::tests::player::Row::{
     Answered, Does, Fails, Fetches, Fills, HasAll, Interrupt, Lays, Reads, Sector, Takes, Writes,
 };
-use crate::tests::playing::{Player, Row, equal};
+use crate::tests::player::{Player, Row, equal};
 use crate::tests::registers::{
     GHC, IS, PX_CI, PX_CLB, PX_CMD, PX_FB, PX_IE, PX_IS, PX_SACT, PX_SERR, PX_SIG, PX_SSTS, PX_TFD,
 };
-use crate::tests::setting::{
+use crate::tests::settings::{
     DATA, MEMORY, NO_PIECES, NONE, ONE, OTHER, READ, READ_DMA, SECTOR, START, TABLE, WRITE,
 };
 use std::test::Fail;

@@ -1,13 +1,13 @@
 //! Stories of entries of a PRDT whose I is 1 (AHCI 1.3.1, sections 3.3.5, DPS, 4.2.3.3 and 5.4.2): DPS is set once all of an entry's bytes have moved.
 
 use crate::tests::fatal::GOES_ON;
-use crate::tests::playing::Pieces::These;
-use crate::tests::playing::Row::{
+use crate::tests::player::Pieces::These;
+use crate::tests::player::Row::{
     Does, Fails, Fetches, Fills, HasAll, Interrupt, Lays, Reads, Refuses, Steps, Takes, Writes,
 };
-use crate::tests::playing::{Row, Story, plays};
+use crate::tests::player::{Row, Story, plays};
 use crate::tests::registers::{IS, PX_CI, PX_IE, PX_IS, PX_SACT};
-use crate::tests::setting::{
+use crate::tests::settings::{
     COMRESET, DATA, MEMORY, ONE, OTHER, READ, READ_DMA, START, TABLE, WRITE,
 };
 use std::test::Fail;

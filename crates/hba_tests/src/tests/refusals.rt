@@ -6,8 +6,8 @@ use crate::tests::life::Call::{
     Supply, Trim, Write,
 };
 use crate::tests::life::{Call, LIFE, Step};
-use crate::tests::playing::{acts, sees, write};
-use crate::tests::setting::MEMORY;
+use crate::tests::player::{acts, sees, write};
+use crate::tests::settings::MEMORY;
 use crate::tests::shown::{Heap, SECTORS, look_at};
 use ahci_hba::{Hba, HbaFault};
 use ahci_port::DiskFault;

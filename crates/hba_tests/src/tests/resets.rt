@@ -1,14 +1,14 @@
 //! Stories of resets: of the link, of the HBA, and by software; and of registers that stay as they are.
 
-use crate::tests::playing::Row::{
+use crate::tests::player::Row::{
     Does, Fills, HasAll, Lays, Reads, ReadsBits, Sector, Signs, Takes, Writes,
 };
-use crate::tests::playing::{Row, Story, plays};
+use crate::tests::player::{Row, Story, plays};
 use crate::tests::registers::{
     CAP, GHC, IS, PI, PX_CI, PX_CLB, PX_CLBU, PX_CMD, PX_FB, PX_FBU, PX_IE, PX_IS, PX_SACT,
     PX_SCTL, PX_SERR, PX_SIG, PX_SSTS, PX_TFD, VS,
 };
-use crate::tests::setting::{
+use crate::tests::settings::{
     DATA, MEMORY, NO_PIECES, NONE, ONE, OTHER, READ_DMA, RESTART, SECTOR, START, TABLE, WRITE,
 };
 use std::test::Fail;

@@ -1,8 +1,8 @@
 //! SeaBIOS 1.16.2: its accesses from power-on to the first sector, and two sectors that are written and read again, as they were recorded.
 
-use crate::tests::playing::Pieces::These;
-use crate::tests::playing::Row::{Does, Fills, Has, HasAll, Lays, Reads, Sector, Signs, Writes};
-use crate::tests::playing::{Pieces, Row, Story};
+use crate::tests::player::Pieces::These;
+use crate::tests::player::Row::{Does, Fills, Has, HasAll, Lays, Reads, Sector, Signs, Writes};
+use crate::tests::player::{Pieces, Row, Story};
 use crate::tests::registers::{
     CAP, GHC, PI, PX_CI, PX_CLB, PX_CLBU, PX_CMD, PX_FB, PX_FBU, PX_IE, PX_IS, PX_SERR, PX_SSTS,
     PX_TFD,

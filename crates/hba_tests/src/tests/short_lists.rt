@@ -1,11 +1,13 @@
 //! Stories of reads whose PRDT names fewer bytes than the device sends (AHCI 1.3.1, sections 3.3.5, OFS, 6.1.5 and 6.2.1).
 
 use crate::tests::fatal::GOES_ON;
-use crate::tests::playing::Pieces::These;
-use crate::tests::playing::Row::{Does, Fills, Has, HasAll, Lays, Reads, ReadsBits, Writes};
-use crate::tests::playing::{Row, Story, plays};
+use crate::tests::player::Pieces::These;
+use crate::tests::player::Row::{Does, Fills, Has, HasAll, Lays, Reads, ReadsBits, Writes};
+use crate::tests::player::{Row, Story, plays};
 use crate::tests::registers::{PX_CI, PX_IS, PX_SACT, PX_TFD};
-use crate::tests::setting::{DATA, LIST, MEMORY, ONE, OTHER, READ, READ_DMA, SECTOR, START, TABLE};
+use crate::tests::settings::{
+    DATA, LIST, MEMORY, ONE, OTHER, READ, READ_DMA, SECTOR, START, TABLE,
+};
 use std::test::Fail;
 
 /// A read whose list is too short: the list is filled, OFS is set, and the port goes on, since OFS is no fatal error (sections 6.1.5 and 6.2.1).

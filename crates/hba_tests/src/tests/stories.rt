@@ -1,15 +1,15 @@
 //! Stories of a driver and its disk. Their values are those of AHCI 1.3.1, Serial ATA and ACS-3, and of docs/LAYOUTS.md where the standards
 //! leave a choice.
 
-use crate::tests::playing::Row::{
+use crate::tests::player::Row::{
     Answered, Does, Fails, Fetches, Fills, Has, HasAll, Interrupt, Lays, Reads, Refuses, Sector,
     Signs, Takes, Writes,
 };
-use crate::tests::playing::{Row, Story, plays};
+use crate::tests::player::{Row, Story, plays};
 use crate::tests::registers::{
     GHC, IS, PX_CI, PX_CLB, PX_CMD, PX_FB, PX_IE, PX_IS, PX_SACT, PX_SERR, PX_SIG, PX_TFD,
 };
-use crate::tests::setting::{
+use crate::tests::settings::{
     DATA, IDENTIFY, LIST, MEMORY, ONE, OTHER, READ, READ_DMA, READ_LOG, RECEIVED, RESTART, SECTOR,
     START, TABLE, WRITE,
 };

@@ -1,11 +1,11 @@
 //! A journal that is trimmed while a driver goes on. A command that moves sectors makes four entries: issue, accept, complete, collect.
 
-use crate::tests::playing::Row::{
+use crate::tests::player::Row::{
     Does, Fails, Fetches, Fills, Has, HasAll, Lays, Reads, Sector, Takes, Writes,
 };
-use crate::tests::playing::{Player, Row, equal};
+use crate::tests::player::{Player, Row, equal};
 use crate::tests::registers::{GHC, PX_CI, PX_SACT, PX_TFD};
-use crate::tests::setting::{
+use crate::tests::settings::{
     DATA, MEMORY, ONE, OTHER, READ, READ_DMA, READ_LOG, RESTART, SECTOR, START, TABLE, WRITE,
 };
 use ahci_port::TrimFault;

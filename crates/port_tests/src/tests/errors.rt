@@ -1,6 +1,6 @@
 //! Errors in a queue, and what comes after them.
-use super::telling::Row;
-use super::telling::Row::{
+use super::story::Row;
+use super::story::Row::{
     Accepts, Collect, Failure, Flush, Issue, Recover, Register, Reissue, Sector, Serves, Step,
 };
 use ahci_port::Stepped::Failed;

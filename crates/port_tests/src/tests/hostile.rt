@@ -1,5 +1,5 @@
 //! Windows of any bytes, issued.
-use super::telling::{port_of, window_of};
+use super::story::{port_of, window_of};
 use crate::tests::table::equal;
 use ahci_port::{DeviceStep, IssueFault, Port, Stepped};
 use ahci_table::Window;

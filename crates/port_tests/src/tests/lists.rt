@@ -1,9 +1,9 @@
 //! Lists of tags that are served by one call, with one Set Device Bits FIS; and lists that are refused whole.
-use super::telling::Row::{
+use super::story::Row::{
     Accepts, Collect, Entries, Failure, Issue, Received, Recover, Register, Reissue, Sector,
     Serves, Step,
 };
-use super::telling::{Row, goes, goes_on, port_of};
+use super::story::{Row, goes, goes_on, port_of};
 use ahci_port::Stepped::{Accepted, Failed};
 use ahci_port::{Port, StepFault};
 use ncq_journal::Outcome;

@@ -1,12 +1,12 @@
 //! The port in use: each call once with memory, and the worked rows.
 use super::errors::{ERROR_IN_A_QUEUE, HELD, LAST_SECTOR};
 use super::lists::{AFTER_A_FAILURE, IN_ITS_ORDER};
-use super::resetting;
-use super::telling::Row::{
+use super::reset;
+use super::story::Row::{
     Accepts, Acknowledge, Collect, Entries, Flush, Identify, Issue, Received, Register, Sector,
     Serves, Step, Zero,
 };
-use super::telling::{Row, goes_on, port_of};
+use super::story::{Row, goes_on, port_of};
 use ahci_port::Stepped::Failed;
 use ahci_port::{PlainFault, ZeroFault};
 use ahci_regs::RegFault;
@@ -114,10 +114,10 @@ static STORIES: [Story; 12] = [
         "a reset drops requests, and none of them changes a sector",
         8,
         4,
-        resetting::DROPPED,
+        reset::DROPPED,
     ),
-    ("a reset port is not halted", 8, 2, resetting::HALTED),
-    ("a reset drops held commands", 8, 2, resetting::HELD),
+    ("a reset port is not halted", 8, 2, reset::HALTED),
+    ("a reset drops held commands", 8, 2, reset::HELD),
 ];
 
 #[test]

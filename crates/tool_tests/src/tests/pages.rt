@@ -1,3 +1,3 @@
 //! The two pages of a disk: their texts, and how they are written.
 mod texts;
-mod writing;
+mod write;

@@ -1,7 +1,0 @@
-use Rattle.std.proofs.Common.{sym, ◌∙◌}
-use Rattle.ahci_ffi.proofs.OverLemmas.{filled}
-use Rattle.ahci_c.proofs.MakingLemmas.{is_empty}
-use Rattle.ahci_c.proofs.making.ahci_port_new.Goals as goal
-
-pub returns : goal.returns
-returns c = filled _ _ _ _ _ _ (is_empty _ (sym c.is_full.ensures ∙ c.if-is_full.false)) c.make.ensures c.fill.ensures

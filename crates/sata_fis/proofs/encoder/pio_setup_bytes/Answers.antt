@@ -1,0 +1,9 @@
+-- What was written is read back.
+use Rattle.std.proofs.Common.{arith}
+use Rattle.sata_fis.proofs.SpellingLemmas.{pio_setup_at-pio_setup_bytes}
+use Rattle.sata_fis.proofs.encoder.pio_setup_bytes.Goals as goal
+
+pub returns-clause-back : goal.returns-clause-back
+returns-clause-back c =
+    rw (c.from_dwords.ensures, c.flags.ensures, c.to_le_bytes.ensures, c.to_le_bytes-2.ensures, c.to_le_bytes-3.ensures, ← c.f.view_is)
+    (pio_setup_at-pio_setup_bytes _ c.f.invariant (omega arith) (omega arith))
