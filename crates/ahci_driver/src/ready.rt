@@ -8,7 +8,7 @@ ghost use Rattle.ahci_driver.specs.Submitting.{IsNotBuilt, buffer_for, default_r
 
 use crate::ticket::Ticket;
 use ahci_port::{IssueFault, Port};
-use ahci_table::{BuildFault, Command, Window, default_fault};
+use ahci_table::{BuildFault, Command, PieceLayout, Window, default_fault};
 use ncq_core::SECTOR;
 use ncq_journal::{Bytes, Op};
 use std::alloc::{AllocError, Allocator};
@@ -46,7 +46,7 @@ impl<A: Allocator + Clone> Ready<A> {
             alloc.clone(),
             alloc.clone(),
         );
-        let (window, command) = Window::over_default_pieces(alloc, tag, op, false)?;
+        let (window, command) = Window::over_layout(alloc, tag, op, false, PieceLayout::Default)?;
         match kept(spare, other, op) {
             Ok((asked, buffer)) => Ok(Ready {
                 window,

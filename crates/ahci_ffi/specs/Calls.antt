@@ -4,6 +4,7 @@ use Rattle.std.specs.Prelude.{◌≡◌, ℕ, List, length}
 use Rattle.ahci_port.specs.PortView.{PortView, next_number, sectors_in}
 use Rattle.ahci_port.specs.Steps.{IsFlushed, IsIdentified, IsReissued, IsSubmitted, trimmed}
 use Rattle.ahci_port.specs.declared.step.DeviceStep.TheVariants as step
+use Rattle.ahci_table.specs.declared.piece_layout.PieceLayout.TheVariants as layout
 use Rattle.ncq_core.specs.Identify.{identify_page}
 use Rattle.ahci_ffi.specs.Asked.{has_fua, submit_refused, work_asked}
 use Rattle.ahci_ffi.specs.Done.{HasCollected, HasRecovered, HasStepped, Same}
@@ -16,7 +17,7 @@ use Rattle.ahci_ffi.specs.declared.status.Status.{Status}
 abbrev pub AnswersSubmit : (tag kind lba sectors : ℕ) → List ℕ → Status → PortView → PortView → (before after : ℕ) → Type 0
 AnswersSubmit tag kind lba sectors bytes answer old new before after =
     ToldOr answer (submit_refused old tag kind lba sectors (length bytes))
-    (IsSubmitted tag (work_asked kind lba sectors bytes) (has_fua kind) old new × (after ≡ next_number old)) (Same old new before after)
+    (IsSubmitted tag (work_asked kind lba sectors bytes) (has_fua kind) layout.Packed old new × (after ≡ next_number old)) (Same old new before after)
 
 abbrev pub AnswersAccept : (tag : ℕ) → Status → PortView → PortView → (before after : FlatStep) → Type 0
 AnswersAccept tag answer old new before after =

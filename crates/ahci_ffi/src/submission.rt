@@ -7,7 +7,7 @@ ghost use Rattle.ahci_ffi.specs.{Asked.{AnswersIssue, has_fua, kind_refusal, wor
 use crate::status::Status;
 use crate::windows::{tag_and_header, window_over};
 use ahci_port::Port;
-use ahci_table::Window;
+use ahci_table::{PieceLayout, Window};
 use ncq_core::SECTOR;
 use ncq_journal::{Bytes, Op};
 use port_refusal::Refusal;
@@ -39,7 +39,7 @@ pub fn issue<A: Allocator + Copy, S: SectorStore>(
     }
 }
 
-/// Issues a read or a write of whole sectors, with FUA or without, in a window over the default pieces. `number` is the request's
+/// Issues a read or a write of whole sectors, with FUA or without, in a window with its data right behind the PRDT. `number` is the request's
 /// then. All that can be wrong is looked at before memory is asked for.
 pub fn submit<A: Allocator + Copy, S: SectorStore>(
     port: &mut Port<A, S>,
@@ -67,7 +67,7 @@ pub fn submit<A: Allocator + Copy, S: SectorStore>(
         Ok(op) => op,
         Err(refused) => return refused.into(),
     };
-    match port.submit_tested(tag, op, has_fua(kind)) {
+    match port.submit_tested(tag, op, has_fua(kind), PieceLayout::Packed) {
         Ok(issued) => {
             *number = issued;
             Status::Done

@@ -3,6 +3,7 @@ use Rattle.std.proofs.Common.{◌≡◌, ℕ, zero, suc, false, List, [], ◌∷
 use Rattle.std.proofs.lemmas.List.{set-get_or}
 use Rattle.hba_command.specs.declared.entry.PrdEntry.{PrdEntry}
 use Rattle.hba_command.specs.declared.task.Task.{Task}
+use Rattle.ahci_table.specs.declared.piece_layout.PieceLayout.TheVariants as layout
 use Rattle.ncq_journal.specs.Work.{Work}
 use Rattle.ahci_port.specs.PortView.{PortView}
 use Rattle.ahci_port.specs.Steps.{IsSubmitted}
@@ -17,11 +18,11 @@ set_twice (x ∷ l) zero a b = refl
 set_twice (x ∷ l) (suc i) a b = ap (λ y. x ∷ y) (set_twice l i a b)
 
 pub sent_by_port : (slot tag : ℕ) (t : Task) (list : List PrdEntry) (bytes : List ℕ) (h new : HbaView) (port : PortView) (work : Work)
-    → tag ≡ slot → IsSubmitted tag work false h.port port → work ≡ asked_for t bytes
+    → tag ≡ slot → IsSubmitted tag work false layout.Packed h.port port → work ≡ asked_for t bytes
     → new ≡ record h { port = port; slots = set h.slots slot (Some (Sent t list)) } → IsSent slot t list bytes h new
 sent_by_port slot tag t list bytes h new port work same submitted asked made = record {
   port = port;
-  submitted = subst (λ w. IsSubmitted slot w false h.port port) asked (subst (λ n. IsSubmitted n work false h.port port) same submitted);
+  submitted = subst (λ w. IsSubmitted slot w false layout.Packed h.port port) asked (subst (λ n. IsSubmitted n work false layout.Packed h.port port) same submitted);
   sent = made;
 }
 
@@ -30,7 +31,7 @@ pub sends : (slot : ℕ) (t : Task) (list : List PrdEntry) (bytes : List ℕ) (h
 sends slot t list bytes h taken new there was sent =
     subst (λ c. Sends slot c h new) (sym there) (record {
       port = sent.port;
-      submitted = subst (λ p. IsSubmitted slot (asked_for t bytes) false p sent.port) (ap (λ v. v.port) was) sent.submitted;
+      submitted = subst (λ p. IsSubmitted slot (asked_for t bytes) false layout.Packed p sent.port) (ap (λ v. v.port) was) sent.submitted;
       sent =
           sent.sent
           ∙ ap {A = HbaView} {B = HbaView} (λ v. record v { port = sent.port; slots = set v.slots slot (Some (Sent t list)) }) was

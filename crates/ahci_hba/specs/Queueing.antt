@@ -24,6 +24,7 @@ use Rattle.hba_regs.specs.declared.soft_reset.SoftReset.TheVariants.{Off}
 use Rattle.ncq_journal.specs.Halted.{halted}
 use Rattle.ncq_journal.specs.Work.{Work, Read, Write}
 use Rattle.ahci_table.specs.Window.{WindowState}
+use Rattle.ahci_table.specs.declared.piece_layout.PieceLayout.TheVariants as layout
 use Rattle.hba_command.specs.Span.{SpanFields}
 use Rattle.ahci_port.specs.PortView.{PortView, owner_of, sectors_in}
 use Rattle.ahci_port.specs.Steps.{IsCollected, IsStepped, IsSubmitted, answer_to}
@@ -230,7 +231,7 @@ sent_to h slot c port = record h { port = port; slots = slice_set h.slots slot (
 
 pub record IsSent (slot : ℕ) (t : Task) (list : List PrdEntry) (bytes : List ℕ) (old new : HbaView) : Type 0 where
   pub port : PortView
-  pub submitted : IsSubmitted slot (asked_for t bytes) false old.port port
+  pub submitted : IsSubmitted slot (asked_for t bytes) false layout.Packed old.port port
   pub sent : new ≡ sent_to old slot (Sent t list) port
 
 -- of a command that is read

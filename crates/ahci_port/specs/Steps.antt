@@ -6,9 +6,10 @@ use Rattle.std.specs.List.{fold}
 use Rattle.std.specs.Option.{option_and_then, option_map}
 use Rattle.ahci_table.specs.Build.{IsBuilt}
 use Rattle.ahci_table.specs.Command.{op, queued_of}
-use Rattle.ahci_table.specs.Defaults.{default_list}
+use Rattle.ahci_table.specs.Defaults.{list_of}
 use Rattle.ahci_table.specs.Scatter.{IsScattered}
 use Rattle.ahci_table.specs.Window.{WindowState}
+use Rattle.ahci_table.specs.declared.piece_layout.PieceLayout.{PieceLayout}
 use Rattle.ncq_journal.specs.declared.plain.Plain.{Plain}
 use Rattle.ncq_journal.specs.declared.plain.Plain.TheVariants as plain
 use Rattle.ncq_journal.specs.Answer.{Answer, answer, sectors_at}
@@ -78,10 +79,10 @@ pub record IsIssued (w : WindowState) (old new : PortView) : Type 0 where
   pub area_same : new.area ≡ old.area
   pub windows_are : new.windows ≡ slice_set old.windows w.tag (Some w)
 
--- a command is submitted, with FUA or without: it is issued by a window over the default pieces
-pub record IsSubmitted (tag : ℕ) (work : Work) (fua : Bool) (old new : PortView) : Type 0 where
+-- a command is submitted, with FUA or without: it is issued by a window whose data lie as a layout says
+pub record IsSubmitted (tag : ℕ) (work : Work) (fua : Bool) (layout : PieceLayout) (old new : PortView) : Type 0 where
   pub window : WindowState
-  pub built : IsBuilt tag work fua (default_list (sectors_of work)) window
+  pub built : IsBuilt tag work fua (list_of layout (sectors_of work)) window
   pub issued : IsIssued window old new
 
 -- the device takes a command: a D2H Register FIS

@@ -19,7 +19,7 @@ mod unqueued;
 mod written;
 
 pub use ahci_regs::RegFault;
-pub use ahci_table::{BuildFault, Piece, Window, default_pieces};
+pub use ahci_table::{BuildFault, Piece, PieceLayout, Window, default_pieces};
 pub use fault::{
     CollectFault, IssueFault, PlainFault, RecoverFault, ReissueFault, ResetFault, ResumeFault,
     StepFault, SubmitFault, TrimFault, WriteFault, ZeroFault,

@@ -9,7 +9,7 @@ ghost use Rattle.ahci_replay.specs.Commands.{AnswersWindow, HasIssued, MayLackOn
 use crate::refused::refused;
 use crate::unanswered::Unanswered;
 use crate::window::read_window;
-use ahci_port::{IssueFault, Port};
+use ahci_port::{IssueFault, PieceLayout, Port};
 use ahci_script::{RawWindow, ScriptAnswer, ScriptCommand};
 use ahci_table::Window;
 use ncq_core::{MAX_SECTORS, SECTOR};
@@ -83,7 +83,7 @@ fn submit<A: Allocator + Copy>(
     ensures err { OnErr result (port.new ≡ port.old) }
     ensures why { IfErr result (λ e. e ≡ Unanswered.OutOfMemory) }
 {
-    match port.submit_tested(tag, op, false) {
+    match port.submit_tested(tag, op, false, PieceLayout::Default) {
         Ok(number) => Ok(ScriptAnswer::Issued(number)),
         Err((_op, refused)) => Err(refused.into()),
     }

@@ -1,12 +1,13 @@
--- Nothing refuses a proper command over the default pieces.
+-- Nothing refuses a proper command that names no pieces.
 use Rattle.std.proofs.Common.{◌≡◌, ℕ, ◌*◌, ◌%◌, ◌<◌, ◌≤◌, Bool, true, false, not, ◌||◌, cond, nat_eq, length, Option, Some, None, ap, refl, arith}
 use Rattle.std.specs.Prelude.{◌^◌, nat_lt, nat_le}
 use Rattle.std.proofs.lemmas.Bool.{eq-eqb, eqb-true, le-ltb, lt-leb, true≢false}
-use Rattle.ahci_table.specs.Defaults.{default_list}
+use Rattle.ahci_table.specs.Defaults.{default_list, list_of}
 use Rattle.ahci_table.specs.Refusal.{has_bad_count, list_refusal, refusal}
 use Rattle.ahci_table.specs.declared.fault.BuildFault.{BuildFault}
 use Rattle.ahci_table.specs.declared.fault.BuildFault.TheVariants.{BadCount, BadLba}
-use Rattle.ahci_table.proofs.DefaultLemmas.{defaults_serve}
+use Rattle.ahci_table.specs.declared.piece_layout.PieceLayout.{PieceLayout}
+use Rattle.ahci_table.proofs.DefaultLemmas.{defaults_serve, layout_serves}
 use Rattle.ncq_journal.specs.Lawful.{IsProper, IsWhole, most_sectors}
 use Rattle.ncq_journal.specs.Work.{Work, Read, Write, lba_of, sectors_of, is_ragged}
 
@@ -30,11 +31,11 @@ not_ragged : (work : Work) → IsWhole work → is_ragged work ≡ false
 not_ragged (Read lba sectors) whole = refl
 not_ragged (Write lba bytes) whole = ap not (eq-eqb (length bytes % 512) 0 (omega (arith, whole)))
 
-pub proper_serves : (work : Work) → IsProper work → refusal work (default_list (sectors_of work)) ≡ None
-proper_serves work p =
+pub proper_serves : (layout : PieceLayout) (work : Work) → IsProper work → refusal work (list_of layout (sectors_of work)) ≡ None
+proper_serves layout work p =
     no_case (nat_eq (sectors_of work) 0) (nat_lt most_sectors (sectors_of work)) (is_ragged work) (nat_le (2 ^ 48) (lba_of work))
-    (list_refusal (default_list (sectors_of work)) (512 * sectors_of work)) (not_zero (sectors_of work) p.some) (le-ltb most_sectors (sectors_of work) p.most) (not_ragged work p.whole)
-    (lt-leb (2 ^ 48) (lba_of work) p.lba) (defaults_serve work)
+    (list_refusal (list_of layout (sectors_of work)) (512 * sectors_of work)) (not_zero (sectors_of work) p.some) (le-ltb most_sectors (sectors_of work) p.most) (not_ragged work p.whole)
+    (lt-leb (2 ^ 48) (lba_of work) p.lba) (layout_serves layout work)
 
 -- over the default pieces count and address alone refuse a command
 pub default_serves : (work : Work) → has_bad_count work ≡ false → lba_of work < 2 ^ 48 → refusal work (default_list (sectors_of work)) ≡ None

@@ -6,7 +6,7 @@ ghost use Rattle.sata_fis.specs.Command.{h2d_for};
 ghost use Rattle.sata_fis.specs.Encoding.{h2d_bytes};
 ghost use Rattle.ncq_journal.specs.{Lawful.{IsProper}, Work.{work_of, lba_of, sectors_of, is_ragged}};
 ghost use Rattle.ahci_table.specs.Build.{IsBuilt, Carries, data_for, header_for, entry_for, table_for, queued_for};
-ghost use Rattle.ahci_table.specs.Defaults.{default_list};
+ghost use Rattle.ahci_table.specs.Defaults.{list_of};
 ghost use Rattle.ahci_table.specs.Fit.{IsFit};
 ghost use Rattle.ahci_table.specs.Piece.{are_apart, end_of, furthest};
 ghost use Rattle.ahci_table.specs.Prdt.{entry_place};
@@ -18,11 +18,11 @@ ghost use Rattle.ahci_table.specs.Window.{base, most_bytes};
 
 use crate::check::base;
 use crate::command::Command;
-use crate::defaults::default_pieces;
 use crate::fault::BuildFault;
 use crate::lay::{lay, rises};
 use crate::list::furthest;
 use crate::piece::Piece;
+use crate::piece_layout::PieceLayout;
 use crate::refusal::refusal;
 use crate::runs;
 use crate::window::Window;
@@ -108,22 +108,23 @@ impl<A: Allocator> Window<A> {
         }
     }
 
-    /// The window of a command over the default pieces, with FUA or without, and the command as `check` answers it.
-    pub fn over_default_pieces<B: Allocator>(
+    /// The window of a command that names no pieces, with FUA or without, and the command as `check` answers it.
+    pub fn over_layout<B: Allocator>(
         alloc: A,
         tag: u8,
         op: &Op<B>,
         fua: bool,
+        layout: PieceLayout,
     ) -> Result<(Self, Command), AllocError>
         requires tag { tag < 32 }
         requires proper { IsProper (work_of op.now) }
-        ensures bytes { IfOk result (λ made. IsBuilt tag (work_of op.now) fua (default_list (sectors_of (work_of op.now))) made.0) }
-        ensures carries { IfOk result (λ made. Carries tag (work_of op.now) fua (default_list (sectors_of (work_of op.now))) made.0) }
+        ensures bytes { IfOk result (λ made. IsBuilt tag (work_of op.now) fua (list_of layout (sectors_of (work_of op.now))) made.0) }
+        ensures carries { IfOk result (λ made. Carries tag (work_of op.now) fua (list_of layout (sectors_of (work_of op.now))) made.0) }
         ensures fit { IfOk result (λ made. IsFit made.0) }
         ensures queued { IfOk result (λ made. made.1.queued ≡ queued_for tag (work_of op.now) fua) }
-        ensures pieces { IfOk result (λ made. made.1.pieces.items ≡ default_list (sectors_of (work_of op.now))) }
+        ensures pieces { IfOk result (λ made. made.1.pieces.items ≡ list_of layout (sectors_of (work_of op.now))) }
     {
-        let pieces = default_pieces(op.sectors() as u32);
+        let pieces = layout.pieces(op.sectors() as u32);
         let window = Self::written(alloc, tag, op, fua, &pieces)?;
         let queued = queued_for(tag, op, fua);
         Ok((window, Command { queued, pieces }))

@@ -11,7 +11,7 @@ ghost use Rattle.ahci_hba.specs.Stepping.{fault_if, may_send, work_at};
 use crate::command::{Command, Listed};
 use crate::fault::HbaFault;
 use crate::hba::Hba;
-use ahci_port::{Bytes, Op, Port, SubmitFault};
+use ahci_port::{Bytes, Op, PieceLayout, Port, SubmitFault};
 use hba_command::{Action, PrdEntry, Span, Task, action_of, lacks_blocks};
 use hba_regs::Slot;
 use ncq_core::SECTOR;
@@ -240,7 +240,10 @@ impl<A: Allocator + Copy, S: SectorStore> Hba<A, S> {
         ensures err { IfErr result (λ e. (e ≡ HbaFault.OutOfMemory) × (self.new ≡ record self.old { slots = slice_set self.old.slots slot (Some (Fetched task list.items bytes.items)) })) }
     {
         let (op, left) = asked(self.alloc, &task, bytes);
-        match self.port.submit_tested(slot.number(), op, false) {
+        match self
+            .port
+            .submit_tested(slot.number(), op, false, PieceLayout::Packed)
+        {
             Ok(_) => {
                 self.put(slot, Command::Sent(task, list));
                 Ok(())

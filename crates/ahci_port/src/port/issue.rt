@@ -141,7 +141,7 @@ impl<A: Allocator + Clone, S: SectorStore> Port<A, S> {
         }
     }
 
-    /// Issues the command of a window as `issue_asked` does, where the command is at hand too, as `Window::over_default_pieces`
+    /// Issues the command of a window as `issue_asked` does, where the command is at hand too, as `Window::over_layout`
     /// answers it: the window is not read.
     ///
     /// # Errors

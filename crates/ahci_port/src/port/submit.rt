@@ -1,4 +1,4 @@
-//! How software submits a command: its window is laid out here, over the default pieces.
+//! How software submits a command: its window is laid out here.
 
 ghost use Rattle.std.specs.Prelude.{◌≡◌, None, IfOk, IfErr, IsErrAnd, MatchOption, OnOk, false};
 ghost use Rattle.ncq_journal.specs.Work.{is_ragged, lba_of, sectors_of, work_of};
@@ -6,7 +6,7 @@ ghost use Rattle.ahci_port.specs.{Faults.{op_refusal, submit_refusal}, PortView.
 
 use crate::fault::{IssueFault, SubmitFault};
 use crate::port::Port;
-use ahci_table::Window;
+use ahci_table::{PieceLayout, Window};
 use ncq_journal::{LBA_LIMIT, MAX_COUNT, Op};
 use sector_store::SectorStore;
 use std::alloc::{AllocError, Allocator};
@@ -49,21 +49,21 @@ impl<A: Allocator + Clone, S: SectorStore> Port<A, S> {
     /// window, for the pages that a write goes to, or for the request's entries was refused. The command comes back as it was.
     pub fn submit(&mut self, tag: u8, op: Op<A>) -> Result<u64, (Op<A>, SubmitFault)>
         ensures number { IfOk result (λ n. n ≡ next_number self.old) }
-        ensures submitted { OnOk result (IsSubmitted tag (work_of op) false self.old self.new) }
+        ensures submitted { OnOk result (IsSubmitted tag (work_of op) false PieceLayout.Default self.old self.new) }
         ensures fault { MatchOption (op_refusal self.old tag (work_of op)) (IfErr result (λ e. e.1 ≡ SubmitFault.Issue IssueFault.OutOfMemory)) (λ fault. IsErrAnd result (λ e. e.1 ≡ fault)) }
         ensures err { IfErr result (λ e. (e.0 ≡ op) × (self.new ≡ self.old)) }
     {
         if let Some(fault) = self.op_fault(tag, &op) {
             return Err((op, fault));
         }
-        match self.submit_tested(tag, op, false) {
+        match self.submit_tested(tag, op, false, PieceLayout::Default) {
             Ok(number) => Ok(number),
             Err((op, refused)) => Err((op, SubmitFault::Issue(refused.into()))),
         }
     }
 
-    /// Submits a command of whole sectors that `submit_fault` has no fault with, as `submit` does; with FUA, if `fua` says so, it is the
-    /// bit of the command FIS (ACS-3, READ and WRITE FPDMA QUEUED, Device bit 7).
+    /// Submits a command of whole sectors that `submit_fault` has no fault with, as `submit` does, its data where `layout` says; with FUA,
+    /// if `fua` says so, it is the bit of the command FIS (ACS-3, READ and WRITE FPDMA QUEUED, Device bit 7).
     ///
     /// # Errors
     /// The command comes back where room for the window or for the request's entries was refused.
@@ -72,18 +72,19 @@ impl<A: Allocator + Clone, S: SectorStore> Port<A, S> {
         tag: u8,
         op: Op<A>,
         fua: bool,
+        layout: PieceLayout,
     ) -> Result<u64, (Op<A>, AllocError)>
         requires whole { is_ragged (work_of op) ≡ false }
         requires free { submit_refusal self.old tag (lba_of (work_of op)) (sectors_of (work_of op)) ≡ None }
         ensures number { IfOk result (λ n. n ≡ next_number self.old) }
-        ensures submitted { OnOk result (IsSubmitted tag (work_of op) fua self.old self.new) }
+        ensures submitted { OnOk result (IsSubmitted tag (work_of op) fua layout self.old self.new) }
         ensures err { IfErr result (λ e. (e.0 ≡ op) × (self.new ≡ self.old)) }
     {
         let alloc = match self.alloc.clone() {
             Ok(alloc) => alloc,
             Err(refused) => return Err((op, refused)),
         };
-        let (window, command) = match Window::over_default_pieces(alloc, tag, &op, fua) {
+        let (window, command) = match Window::over_layout(alloc, tag, &op, fua, layout) {
             Ok(made) => made,
             Err(refused) => return Err((op, refused)),
         };

@@ -8,4 +8,4 @@ pub enter-requires-clause-taken : goal.enter-requires-clause-taken
 enter-requires-clause-taken g c =
     let port = c.args.self.now in
     let work = work_of c.args.op in
-    subst (λ t. MayTake port t) (sym c.in-Ok-over_default_pieces.ensures.bytes.tag_is) (submit_may port c.args.tag (lba_of work) (sectors_of work) c.requires.free)
+    subst (λ t. MayTake port t) (sym c.in-Ok-over_layout.ensures.bytes.tag_is) (submit_may port c.args.tag (lba_of work) (sectors_of work) c.requires.free)
