@@ -26,6 +26,7 @@ use Rattle.hba_command.specs.declared.entry.PrdEntry.{PrdEntry}
 use Rattle.hba_command.specs.declared.log.Log.{Log}
 use Rattle.hba_command.specs.declared.log.Log.TheVariants.{Host, Pages, QueuedError}
 use Rattle.hba_command.specs.declared.log.LongLog.{LongLog}
+use Rattle.hba_command.specs.declared.page.Page as page_kind
 use Rattle.hba_command.specs.declared.page.Page.TheVariants as page
 use Rattle.hba_command.specs.declared.protocol.Protocol.{Protocol}
 use Rattle.hba_command.specs.declared.protocol.Protocol.TheVariants.{Pio, Dma}
@@ -200,10 +201,19 @@ Executes false slot a list old new = Performs slot a list old new
 abbrev pub ExecutesAt : ℕ → Action → List PrdEntry → HbaView → HbaView → Type 0
 ExecutesAt slot a list old new = Executes (is_aborted old a) slot a list old new
 
--- an allocation can be refused: for a page, for what data change that are no sectors, for the journal that a flush is an entry of, and for the sectors of a read that
--- move
+-- an allocation can be refused: for a page that isn't aborted, for what data change that are no sectors, for the journal that a flush is an entry of, and for the
+-- sectors of a read that move
+abbrev pub LogMayLack : HbaView → Log → Type 0
+LogMayLack h (Host pages) = allows_log h.device pages ≡ true
+LogMayLack h other = Unit {0}
+
+abbrev pub PageMayLack : HbaView → page_kind.Page → Type 0
+PageMayLack h (page.Log log) = LogMayLack h log
+PageMayLack h (page.Disk ready) = allows_page h.device ready ≡ true
+PageMayLack h page.Identify = Unit {0}
+
 abbrev pub MayLack : HbaView → Action → Type 0
-MayLack h (Page page p) = Unit {0}
+MayLack h (Page asked p) = PageMayLack h asked
 MayLack h (Store s p) = StoreMayLack h s
 MayLack h (Flush a) = LacksRoom h.port
 MayLack h (Sectors write span p) = moves_some h.port write span (stops_at h.port span (marked_for h (Sectors write span p))) ≡ true

@@ -2,10 +2,10 @@
 //! are the host's are written.
 
 ghost use Rattle.std.specs.Prelude.{◌≡◌, ◌≤◌, ◌+◌, true, IfErr, IfOk, OnErr, OnOk};
-ghost use Rattle.hba_command.specs.{Device.{allows_log}, HostLogs.{rewritten}};
+ghost use Rattle.hba_command.specs.{Device.{allows_log, allows_page}, HostLogs.{rewritten}};
 ghost use Rattle.hba_command.specs.LongLogs.{long_log_pages};
 ghost use Rattle.hba_command.specs.declared.log.Log.TheVariants.{QueuedError};
-ghost use Rattle.ahci_hba.specs.Executing.{disk_page_given, host_log_given, log_given, long_log_in, paged, pages_given};
+ghost use Rattle.ahci_hba.specs.Executing.{LogMayLack, disk_page_given, host_log_given, log_given, long_log_in, paged, pages_given};
 ghost use Rattle.ahci_hba.specs.Logging.{logging, logs_behind};
 ghost use Rattle.ahci_hba.specs.Queueing.{command_at, list_in};
 ghost use Rattle.ahci_hba.specs.Storing.{content_in, log_stored, log_taken_by};
@@ -124,6 +124,7 @@ impl<A: Allocator + Copy, S: SectorStore> Hba<A, S> {
     ) -> Result<(), HbaFault>
         ensures ok { OnOk result (self.new ≡ host_log_given self.old slot protocol (list_in (command_at self.old slot)) pages.now) }
         ensures err { IfErr result (λ e. (e ≡ HbaFault.OutOfMemory) × (self.new ≡ self.old)) }
+        ensures lacking { OnErr result (allows_log self.old.device pages.now ≡ true) }
     {
         if !allows_log(&self.device, pages) {
             self.conclude(slot, aborted());
@@ -143,6 +144,7 @@ impl<A: Allocator + Copy, S: SectorStore> Hba<A, S> {
     ) -> Result<(), HbaFault>
         ensures ok { OnOk result (self.new ≡ log_given self.old slot protocol (list_in (command_at self.old slot)) log.now) }
         ensures err { IfErr result (λ e. (e ≡ HbaFault.OutOfMemory) × (self.new ≡ self.old)) }
+        ensures lacking { OnErr result (LogMayLack self.old log.now) }
     {
         match log {
             Log::QueuedError => self.read_error_log(slot, protocol),
@@ -160,6 +162,7 @@ impl<A: Allocator + Copy, S: SectorStore> Hba<A, S> {
     ) -> Result<(), HbaFault>
         ensures ok { OnOk result (self.new ≡ disk_page_given self.old slot protocol (list_in (command_at self.old slot)) page) }
         ensures err { IfErr result (λ e. (e ≡ HbaFault.OutOfMemory) × (self.new ≡ self.old)) }
+        ensures lacking { OnErr result (allows_page self.old.device page ≡ true) }
     {
         if !allows_page(&self.device, page) {
             self.conclude(slot, aborted());
