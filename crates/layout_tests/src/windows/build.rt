@@ -5,7 +5,7 @@ use crate::table::{equal, equal_bytes};
 use BuildFault::{
     BadCount, BadLba, NoPieces, OddPiece, PieceOutside, PiecesOverlap, TooManyPieces, WrongTotal,
 };
-use ahci_table::{BuildFault, Window, default_pieces};
+use ahci_table::{BuildFault, PieceLayout, Window, default_fault, default_pieces};
 use std::process::Abort;
 use std::test::Fail;
 
@@ -19,7 +19,7 @@ fn has(rt: &impl Abort, row: usize, window: &Window, header: &[u8], parts: &[(us
     }
 }
 
-/// A command by its tag, over the default pieces, and what its window has: header, command, an entry at its place, and length.
+/// A command by its tag, and what its window has: header, command, an entry at its place, and length.
 struct Bytes {
     tag: u8,
     asked: Asked,
@@ -58,6 +58,66 @@ static OVER_DEFAULT_PIECES: [Bytes; 2] = [
     },
 ];
 
+/// One sector; one more than a piece of 4 MiB has; eight sectors; and the most that one command can have, by eight pieces.
+static PACKED: [Bytes; 4] = [
+    Bytes {
+        tag: 31,
+        asked: Asked::Read(0, 1),
+        sectors: 1,
+        header: b"\x05\x00\x01\x00\x00\x00\x00\x00\x00\x00\x00\x8C\x00\x00\x00\x00\x00\x00\x00\x00\x00\x00\x00\x00\x00\x00\x00\x00\x00\x00\x00\x00",
+        command: b"\x27\x80\x60\x01\x00\x00\x00\x40\x00\x00\x00\x00\xF8\x00\x00\x00\x00\x00\x00\x00",
+        entry: (
+            0x80,
+            b"\x90\x00\x00\x8C\x00\x00\x00\x00\x00\x00\x00\x00\xFF\x01\x00\x00",
+        ),
+        len: 656,
+    },
+    Bytes {
+        tag: 0,
+        asked: Asked::Write(8_193 * 512),
+        sectors: 8_193,
+        header: b"\x45\x00\x02\x00\x00\x00\x00\x00\x00\x00\x00\x10\x00\x00\x00\x00\x00\x00\x00\x00\x00\x00\x00\x00\x00\x00\x00\x00\x00\x00\x00\x00",
+        command: b"\x27\x80\x61\x01\x00\x00\x00\x40\x00\x00\x00\x20\x00\x00\x00\x00\x00\x00\x00\x00",
+        entry: (
+            0x90,
+            b"\xA0\x00\x40\x10\x00\x00\x00\x00\x00\x00\x00\x00\xFF\x01\x00\x00",
+        ),
+        len: 4_194_976,
+    },
+    Bytes {
+        tag: 5,
+        asked: Asked::Read(0x12_3456_789A, 8),
+        sectors: 8,
+        header: b"\x05\x00\x01\x00\x00\x00\x00\x00\x00\x00\x00\x24\x00\x00\x00\x00\x00\x00\x00\x00\x00\x00\x00\x00\x00\x00\x00\x00\x00\x00\x00\x00",
+        command: b"\x27\x80\x60\x08\x9A\x78\x56\x40\x34\x12\x00\x00\x28\x00\x00\x00\x00\x00\x00\x00",
+        entry: (
+            0x80,
+            b"\x90\x00\x00\x24\x00\x00\x00\x00\x00\x00\x00\x00\xFF\x0F\x00\x00",
+        ),
+        len: 4_240,
+    },
+    Bytes {
+        tag: 0,
+        asked: Asked::Write(65_536 * 512),
+        sectors: 65_536,
+        header: b"\x45\x00\x08\x00\x00\x00\x00\x00\x00\x00\x00\x10\x00\x00\x00\x00\x00\x00\x00\x00\x00\x00\x00\x00\x00\x00\x00\x00\x00\x00\x00\x00",
+        command: b"\x27\x80\x61\x00\x00\x00\x00\x40\x00\x00\x00\x00\x00\x00\x00\x00\x00\x00\x00\x00",
+        entry: (
+            0xF0,
+            b"\x00\x01\xC0\x11\x00\x00\x00\x00\x00\x00\x00\x00\xFF\xFF\x3F\x00",
+        ),
+        len: 33_554_688,
+    },
+];
+
+/// Compares a window with what a row says of it.
+fn is_as(rt: &impl Abort, row: usize, window: &Window, bytes: &Bytes) {
+    let (header, command, (place, entry)) = (bytes.header, bytes.command, bytes.entry);
+    has(rt, row, window, header, &[(0, command), (place, entry)]);
+    let found = (window.bytes().len(), window.tag());
+    equal(rt, row, &found, &(bytes.len, bytes.tag));
+}
+
 #[test]
 fn the_bytes_of_a_read_of_eight_sectors_and_of_the_longest_write(
     rt: HostRuntime,
@@ -66,10 +126,28 @@ fn the_bytes_of_a_read_of_eight_sectors_and_of_the_longest_write(
         assert!(rt; bytes.tag < 32);
         let op = op_of(rt.alloc(), bytes.asked)?;
         let window = Window::build(rt.alloc(), bytes.tag, &op, &default_pieces(bytes.sectors))?;
-        let (header, command, (place, entry)) = (bytes.header, bytes.command, bytes.entry);
-        has(&rt, row, &window, header, &[(0, command), (place, entry)]);
-        let found = (window.bytes().len(), window.tag());
-        equal(&rt, row, &found, &(bytes.len, bytes.tag));
+        is_as(&rt, row, &window, bytes);
+    }
+    Ok(())
+}
+
+#[test]
+fn packed_data_begin_behind_the_prdt(rt: HostRuntime) -> Result<(), Fail> {
+    for (row, bytes) in PACKED.iter().enumerate() {
+        assert!(rt; bytes.tag < 32);
+        let op = op_of(rt.alloc(), bytes.asked)?;
+        let None = default_fault(&op) else {
+            panic!(rt; "no window is built");
+        };
+        let (window, command) = Window::over_layout(
+            rt.alloc(),
+            bytes.tag,
+            &op,
+            false,
+            PieceLayout::Packed,
+        )?;
+        is_as(&rt, row, &window, bytes);
+        equal(&rt, row, &command.queued.sectors, &bytes.sectors);
     }
     Ok(())
 }
