@@ -22,7 +22,7 @@ extern "C" {
 #endif
 
 /* The version of this header: major, minor and patch, a byte each. ahci_version returns that of the library. */
-#define AHCI_VERSION 0x010000u
+#define AHCI_VERSION 0x010100u
 
 #define AHCI_SECTOR_BYTES 512
 #define AHCI_MOST_SECTORS 131072   /* of one port's disk: 64 MiB */

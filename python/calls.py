@@ -160,7 +160,7 @@ def layers() -> None:
     assert ahci.status_text(Status.OUTSIDE_COMMAND) == "OutsideCommand"
     refused(Status.BAD_KIND, lambda: ahci.status_text(14))
     refused(Status.BAD_DEPTH, lambda: ahci.journal_check(8, 33, []))
-    assert ahci.version() == 0x010000
+    assert ahci.version() == 0x010100
     refused(Status.BAD_HEADER, lambda: ahci.window_check(0, bytes(32), bytes(1024)))
 
 

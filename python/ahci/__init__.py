@@ -20,7 +20,7 @@ from .names import DeviceKind, Did, Event, InterfaceError, Kind, Order, Outcome,
 from .port import Port
 from .records import Capabilities, Command, Entry, Fis, FisType, Identity, Look, Reply, Slot, State, Stepped, TagSets, Written
 
-__version__ = "1.0.0"
+__version__ = "1.1.0"
 __all__ = [
     "Capabilities", "Command", "DeviceKind", "Did", "Entry", "Event", "Fis", "FisType", "Identity", "InterfaceError", "Kind", "Look", "Order", "OutOfMemory", "Outcome", "Phase", "Port", "Refused",
     "Register", "Reply", "Rule", "Slot", "State", "Status", "Step", "Stepped", "TagSets", "Want", "Written", "Wrote", "choose_tag", "choose_tags",

@@ -8,7 +8,7 @@ pub(crate) struct Help {
     pub(crate) after_help: &'static str,
 }
 
-pub(crate) const VERSION: &str = "1.0.0";
+pub(crate) const VERSION: &str = "1.1.0";
 
 pub(crate) const ABOUT: &str = "A reference model of one AHCI port with native command queueing.
 It answers a script of commands one by one, tells or draws what each did, judges a script's lines,

@@ -47,7 +47,7 @@ mod tests;
 /// The library's version: major, minor and patch, a byte each.
 #[unsafe(no_mangle)]
 pub extern "C" fn ahci_version() -> u32
-    ensures { result ≡ 0x010000 }
+    ensures { result ≡ 0x010100 }
 {
-    0x01_00_00
+    0x01_01_00
 }

@@ -49,7 +49,7 @@ pub fn are_told(rt: &impl Abort, alloc: Global, first: &str, kinds: &[Kind]) -> 
 static WRONG: [Kind; 6] = [
     (
         ErrorKind::DisplayVersion,
-        &[("ahci --version", "ahci 1.0.0\n")],
+        &[("ahci --version", "ahci 1.1.0\n")],
     ),
     (
         ErrorKind::MissingSubcommand,

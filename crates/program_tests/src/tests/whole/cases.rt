@@ -265,7 +265,7 @@ pub static CASES: [Case; 40] = [
         Part("--error"),
         2,
     ),
-    ("ahci --version", GOOD, Text("ahci 1.0.0\n"), NOTHING, 0),
+    ("ahci --version", GOOD, Text("ahci 1.1.0\n"), NOTHING, 0),
 ];
 
 /// Lines that get help, whatever the input is, and a part of it.
