@@ -147,7 +147,7 @@ pub extern "C" fn ahci_hba_bytes(hba: &mut HbaPlace, heap: Global, out: &mut [u8
 #[unsafe(no_mangle)]
 pub extern "C" fn ahci_hba_written(hba: &mut HbaPlace, heap: Global) -> u32
     ensures { Changes result (view_of hba.old) (view_of hba.new) ⊤
-        (λ answer old new. (answer ≡ Status.Done) × (new ≡ put_done old old.work)) }
+        (λ answer old new. (answer ≡ Status.Done) × (new ≡ put_done old old.dma)) }
 {
     over!(hba, heap, |held| hba_ffi::written(&mut held))
 }
@@ -156,7 +156,7 @@ pub extern "C" fn ahci_hba_written(hba: &mut HbaPlace, heap: Global) -> u32
 #[unsafe(no_mangle)]
 pub extern "C" fn ahci_hba_unmapped(hba: &mut HbaPlace, heap: Global) -> u32
     ensures { Changes result (view_of hba.old) (view_of hba.new) ⊤
-        (λ answer old new. (answer ≡ Status.Done) × (new ≡ unmapped old old.work)) }
+        (λ answer old new. (answer ≡ Status.Done) × (new ≡ unmapped old old.dma)) }
 {
     over!(hba, heap, |held| hba_ffi::unmapped(&mut held))
 }
@@ -165,7 +165,7 @@ pub extern "C" fn ahci_hba_unmapped(hba: &mut HbaPlace, heap: Global) -> u32
 #[unsafe(no_mangle)]
 pub extern "C" fn ahci_hba_spoiled(hba: &mut HbaPlace, heap: Global) -> u32
     ensures { Changes result (view_of hba.old) (view_of hba.new) ⊤
-        (λ answer old new. (answer ≡ Status.Done) × (new ≡ spoiled old old.work)) }
+        (λ answer old new. (answer ≡ Status.Done) × (new ≡ spoiled old old.dma)) }
 {
     over!(hba, heap, |held| hba_ffi::spoiled(&mut held))
 }

@@ -11,7 +11,7 @@ use Rattle.ahci_check.proofs.ComplaintLemmas.{complaint_agrees}
 use Rattle.ahci_check.specs.Limits.{disk_excess}
 use Rattle.ahci_check.specs.Complaints.{complaint_in, ends_replay, first_wrong, is_in_place, place_after, place_by, stands_at}
 use Rattle.ahci_check.specs.Judges.{judge_after}
-use Rattle.ahci_check.specs.Sheets.{Sheet, judged_from, with_next}
+use Rattle.ahci_check.specs.Reports.{Report, judged_from, with_next}
 use Rattle.ahci_check.specs.declared.judge.Judge.TheVariants.{OfScript}
 use Rattle.streams.specs.Unread.{whole}
 use Rattle.ahci_check.specs.declared.place.Place.TheVariants.{BeforeDisk, AfterDisk}
@@ -198,11 +198,11 @@ after_alike : (telling : Telling) (number : ℕ) (line : List ℕ) (port : Optio
     → placed port line ≡ Some l → RunsLine telling number line port l next added → place_after (place_of port) line ≡ place_of next
 after_alike telling number line port l next added is ran = spelled_alike telling number line port (reading line) l next added is ran
 
-stand_alike : (telling : Telling) (port last : Option PortView) (lines : List (List ℕ)) (text : List ℕ) (sheet : Sheet) (number : ℕ) → Adds telling number port lines text last
-    → sheet.judge ≡ OfScript (place_of port) → (judged_from number sheet lines).judge ≡ OfScript (place_of last)
-stand_alike telling port last lines text sheet number (no_line n same) is = is
-stand_alike telling port last lines text sheet number (one_more n same first l next added more rest end own spelled ran others) is =
-    stand_alike telling next last more rest (with_next sheet number (whole first)) (number + 1) others
+stand_alike : (telling : Telling) (port last : Option PortView) (lines : List (List ℕ)) (text : List ℕ) (report : Report) (number : ℕ) → Adds telling number port lines text last
+    → report.judge ≡ OfScript (place_of port) → (judged_from number report lines).judge ≡ OfScript (place_of last)
+stand_alike telling port last lines text report number (no_line n same) is = is
+stand_alike telling port last lines text report number (one_more n same first l next added more rest end own spelled ran others) is =
+    stand_alike telling next last more rest (with_next report number (whole first)) (number + 1) others
     (ap (λ j. judge_after j first) is ∙ ap OfScript (after_alike telling number first port l next added spelled ran))
 
 -- ---- the first line at which replay ends

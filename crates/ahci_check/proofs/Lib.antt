@@ -3,6 +3,6 @@ pub mod ComplaintLemmas
 pub mod JobLemmas
 pub mod JsonLemmas
 pub mod RefusedLemmas
-pub mod SheetLemmas
+pub mod ReportLemmas
 pub mod TagLemmas
 pub mod WindowLemmas

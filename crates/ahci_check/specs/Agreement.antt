@@ -1,7 +1,7 @@
 -- A check of a script and its replay agree: both end at the same line.
 use Rattle.std.specs.Prelude.{◌≡◌, ℕ, ◌+◌, List, ◌∷◌, ◌++◌, Option, None, Some, is_none, length}
 use Rattle.ahci_check.specs.Complaints.{complaint_in, ends_replay, first_wrong}
-use Rattle.ahci_check.specs.Sheets.{Sheet, judged_from}
+use Rattle.ahci_check.specs.Reports.{Report, judged_from}
 use Rattle.ahci_check.specs.declared.judge.Judge.TheVariants.{OfScript}
 use Rattle.ahci_check.specs.declared.place.Place.{Place}
 use Rattle.ahci_check.specs.declared.place.Place.TheVariants.{BeforeDisk, AfterDisk}
@@ -19,8 +19,8 @@ StopAlike = (port : Option PortView) (number : ℕ) (line : List ℕ) → ends_r
 
 -- after lines that replay has answered, the check's next line has the place that replay's has
 abbrev pub StandAlike : Type 0
-StandAlike = (telling : Telling) (port last : Option PortView) (lines : List (List ℕ)) (text : List ℕ) (sheet : Sheet) (number : ℕ)
-    → Adds telling number port lines text last → sheet.judge ≡ OfScript (place_of port) → (judged_from number sheet lines).judge ≡ OfScript (place_of last)
+StandAlike = (telling : Telling) (port last : Option PortView) (lines : List (List ℕ)) (text : List ℕ) (report : Report) (number : ℕ)
+    → Adds telling number port lines text last → report.judge ≡ OfScript (place_of port) → (judged_from number report lines).judge ≡ OfScript (place_of last)
 
 -- replay has answered all lines: none has such a complaint
 abbrev pub NoneEnds : Type 0

@@ -5,6 +5,6 @@ pub mod Json
 pub mod Judges
 pub mod Limits
 pub mod Refused
-pub mod Sheets
+pub mod Reports
 pub mod Texts
 pub mod Windows

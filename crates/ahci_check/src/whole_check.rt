@@ -2,14 +2,14 @@
 
 ghost use Rattle.std.specs.Prelude.{◌≡◌, [], false, IfErr, IfOk, OnOk};
 ghost use Rattle.streams.specs.Ends.{with_flush};
-ghost use Rattle.ahci_check.specs.Sheets.{EndsCheck, IsChecked};
+ghost use Rattle.ahci_check.specs.Reports.{EndsCheck, IsChecked};
 ghost use Rattle.ahci_check.specs.Faults.{ReadsTo, WritesTo};
 
 use crate::check_fault::CheckFault;
 use crate::form::Form;
 use crate::judge::Judge;
 use crate::place::Place;
-use crate::sheet::Sheet;
+use crate::report::Report;
 use ahci_script::Output;
 use std::alloc::Allocator;
 use std::io::{Read, Write};
@@ -91,37 +91,37 @@ pub fn check_with<R: Read, W: Write, A: Allocator + Clone>(
     ensures unfailed { OnOk result (reads.new.failed ≡ reads.old.failed) }
     ensures reads { IfErr result (ReadsTo reads.old reads.new) }
 {
-    let (sheets, texts) = (alloc.clone()?, alloc.clone()?);
+    let (reports, texts) = (alloc.clone()?, alloc.clone()?);
     let before = mem::replace(writes, Writes::new());
-    let mut sheet = Sheet::new(sheets, Output::new(texts), form, judge, before);
-    let outcome = fill_sheet(alloc, &mut sheet, reader, reads, writer);
-    let found = sheet.found();
-    *writes = sheet.into_writes();
+    let mut report = Report::new(reports, Output::new(texts), form, judge, before);
+    let outcome = fill_report(alloc, &mut report, reader, reads, writer);
+    let found = report.found();
+    *writes = report.into_writes();
     outcome?;
     Ok(found)
 }
 
-/// Judges all lines on a sheet that has none yet, and returns how the reads and writes went.
-fn fill_sheet<R: Read, W: Write, A: Allocator + Clone>(
+/// Judges all lines on a report that has none yet, and returns how the reads and writes went.
+fn fill_report<R: Read, W: Write, A: Allocator + Clone>(
     alloc: A,
-    sheet: &mut Sheet<A>,
+    report: &mut Report<A>,
     reader: &mut R,
     reads: &mut Reads,
     writer: &mut W,
 ) -> Result<(), CheckFault>
-    requires new { (sheet.old.found ≡ false) × (sheet.old.waiting ≡ []) }
-    ensures ok { OnOk result (IsChecked sheet.old.form sheet.old.judge (R.remaining reader.old) (R.remaining reader.new)
-        (W.contents writer.old) (W.contents writer.new) sheet.new.found) }
-    ensures err { IfErr result (EndsCheck sheet.old.form sheet.old.judge (R.remaining reader.old) (R.remaining reader.new)
+    requires new { (report.old.found ≡ false) × (report.old.waiting ≡ []) }
+    ensures ok { OnOk result (IsChecked report.old.form report.old.judge (R.remaining reader.old) (R.remaining reader.new)
+        (W.contents writer.old) (W.contents writer.new) report.new.found) }
+    ensures err { IfErr result (EndsCheck report.old.form report.old.judge (R.remaining reader.old) (R.remaining reader.new)
         (W.contents writer.old) (W.contents writer.new)) }
-    ensures flushed { OnOk result (sheet.new.writes ≡ with_flush sheet.old.writes) }
-    ensures writes { IfErr result (WritesTo sheet.old.writes sheet.new.writes) }
+    ensures flushed { OnOk result (report.new.writes ≡ with_flush report.old.writes) }
+    ensures writes { IfErr result (WritesTo report.old.writes report.new.writes) }
     ensures unfailed { OnOk result (reads.new.failed ≡ reads.old.failed) }
     ensures reads { IfErr result (ReadsTo reads.old reads.new) }
 {
-    match take_lines(alloc, reader, reads, sheet, writer) {
+    match take_lines(alloc, reader, reads, report, writer) {
         Ok(()) => {
-            sheet.send(writer)?;
+            report.send(writer)?;
             Ok(())
         }
         Err(stopped) => {
@@ -129,7 +129,7 @@ fn fill_sheet<R: Read, W: Write, A: Allocator + Clone>(
             if fault.is_of_output() {
                 return Err(fault);
             }
-            sheet.send(writer)?;
+            report.send(writer)?;
             Err(fault)
         }
     }

@@ -17,7 +17,7 @@ use Rattle.ncq_journal.specs.Lawful.{IsProper, most_sectors}
 use Rattle.ahci_check.specs.Complaints.{of_excess}
 use Rattle.ahci_check.specs.Judges.{job_complaint, job_excess, judge_after, of_job_reading}
 use Rattle.ahci_check.specs.Limits.{count_excess}
-use Rattle.ahci_check.specs.Sheets.{AreLines, no_line, one_more, Sheet, blank, judged_from, said_of, sheet_of, with_found, with_next}
+use Rattle.ahci_check.specs.Reports.{AreLines, no_line, one_more, Report, blank, judged_from, said_of, report_of, with_found, with_next}
 use Rattle.ahci_check.specs.declared.form.Form.{Form}
 use Rattle.ahci_check.specs.declared.judge.Judge.TheVariants.{OfJobs}
 use Rattle.ahci_jobs.specs.JobList.{AreGood, IsGood, command_for}
@@ -97,34 +97,34 @@ AllGood [] = Unit {0}
 AllGood (first ∷ more) = IsGood (job_line_of first) × AllGood more
 
 -- a line is judged as one of a job list, and so is the next
-found_next : (sheet : Sheet) (number : ℕ) (found : Begins) → sheet.judge ≡ OfJobs
-    → (with_next sheet number found).found ≡ (sheet.found || is_some (said_of OfJobs number found))
-found_next sheet number found jobs = ap (λ j. sheet.found || is_some (said_of j number found)) jobs
+found_next : (report : Report) (number : ℕ) (found : Begins) → report.judge ≡ OfJobs
+    → (with_next report number found).found ≡ (report.found || is_some (said_of OfJobs number found))
+found_next report number found jobs = ap (λ j. report.found || is_some (said_of j number found)) jobs
 
-judge_next : (sheet : Sheet) (number : ℕ) (line : List ℕ) → sheet.judge ≡ OfJobs → (with_next sheet number (whole line)).judge ≡ OfJobs
-judge_next sheet number line jobs = ap (λ j. judge_after j line) jobs
+judge_next : (report : Report) (number : ℕ) (line : List ℕ) → report.judge ≡ OfJobs → (with_next report number (whole line)).judge ≡ OfJobs
+judge_next report number line jobs = ap (λ j. judge_after j line) jobs
 
-judge_stays : (number : ℕ) (sheet : Sheet) (lines : List (List ℕ)) → sheet.judge ≡ OfJobs → (judged_from number sheet lines).judge ≡ OfJobs
-judge_stays number sheet [] jobs = jobs
-judge_stays number sheet (line ∷ more) jobs = judge_stays (number + 1) (with_next sheet number (whole line)) more (judge_next sheet number line jobs)
+judge_stays : (number : ℕ) (report : Report) (lines : List (List ℕ)) → report.judge ≡ OfJobs → (judged_from number report lines).judge ≡ OfJobs
+judge_stays number report [] jobs = jobs
+judge_stays number report (line ∷ more) jobs = judge_stays (number + 1) (with_next report number (whole line)) more (judge_next report number line jobs)
 
--- nothing is found in a sheet with one line more exactly if nothing was found before, and the line is good
-quiet_next : (sheet : Sheet) (number : ℕ) (line : List ℕ) → sheet.judge ≡ OfJobs
-    → ((with_next sheet number (whole line)).found ≡ false) ↔ ((sheet.found ≡ false) × IsGood (job_line_of line))
-quiet_next sheet number line jobs =
-    let is = found_next sheet number (whole line) jobs in
+-- nothing is found in a report with one line more exactly if nothing was found before, and the line is good
+quiet_next : (report : Report) (number : ℕ) (line : List ℕ) → report.judge ≡ OfJobs
+    → ((with_next report number (whole line)).found ≡ false) ↔ ((report.found ≡ false) × IsGood (job_line_of line))
+quiet_next report number line jobs =
+    let is = found_next report number (whole line) jobs in
     let agree = lines_agree number line in
     let said = none_is_false (job_complaint number line) in (
-      (λ e. let h = or_parts sheet.found (is_some (job_complaint number line)) (sym is ∙ e) in (h.0, agree.0 (said.0 h.1))),
-      (λ h. is ∙ or_from sheet.found (is_some (job_complaint number line)) h.0 (said.1 (agree.1 h.1))),
+      (λ e. let h = or_parts report.found (is_some (job_complaint number line)) (sym is ∙ e) in (h.0, agree.0 (said.0 h.1))),
+      (λ h. is ∙ or_from report.found (is_some (job_complaint number line)) h.0 (said.1 (agree.1 h.1))),
     )
 
-quiet_lines : (number : ℕ) (sheet : Sheet) (lines : List (List ℕ)) → sheet.judge ≡ OfJobs
-    → ((judged_from number sheet lines).found ≡ false) ↔ ((sheet.found ≡ false) × AllGood lines)
-quiet_lines number sheet [] jobs = ((λ e. (e, tt)), (λ h. h.0))
-quiet_lines number sheet (line ∷ more) jobs =
-    let next = quiet_next sheet number line jobs in
-    let later = quiet_lines (number + 1) (with_next sheet number (whole line)) more (judge_next sheet number line jobs) in
+quiet_lines : (number : ℕ) (report : Report) (lines : List (List ℕ)) → report.judge ≡ OfJobs
+    → ((judged_from number report lines).found ≡ false) ↔ ((report.found ≡ false) × AllGood lines)
+quiet_lines number report [] jobs = ((λ e. (e, tt)), (λ h. h.0))
+quiet_lines number report (line ∷ more) jobs =
+    let next = quiet_next report number line jobs in
+    let later = quiet_lines (number + 1) (with_next report number (whole line)) more (judge_next report number line jobs) in
     ((λ e. let h = later.0 e in let k = next.0 h.0 in (k.0, (k.1, h.1))), (λ h. later.1 (next.1 (h.0, h.1.0), h.1.1)))
 
 -- lines that are their own and good
@@ -138,31 +138,31 @@ all_good _ (list.one_more first more own good others) = (good, all_good more oth
 
 -- the whole input
 quiet_input : (form : Form) (lines : List (List ℕ)) (rest : List ℕ)
-    → ((with_next (sheet_of form OfJobs lines) (length lines + 1) (whole rest)).found ≡ false) ↔ (AllGood lines × IsGood (job_line_of rest))
+    → ((with_next (report_of form OfJobs lines) (length lines + 1) (whole rest)).found ≡ false) ↔ (AllGood lines × IsGood (job_line_of rest))
 quiet_input form lines rest =
     let stays = judge_stays 1 (blank form OfJobs) lines refl in
     let first = quiet_lines 1 (blank form OfJobs) lines refl in
-    let last = quiet_next (sheet_of form OfJobs lines) (length lines + 1) rest stays in
+    let last = quiet_next (report_of form OfJobs lines) (length lines + 1) rest stays in
     ((λ e. let h = last.0 e in ((first.0 h.0).1, h.1)), (λ h. last.1 (first.1 (refl, h.0), h.1)))
 
 lists_are_quiet : ListsAreQuiet
 lists_are_quiet form lines rest good unended last =
-    ap (λ found. (with_next (sheet_of form OfJobs lines) (length lines + 1) (last_by found rest)).found) unended
+    ap (λ found. (with_next (report_of form OfJobs lines) (length lines + 1) (last_by found rest)).found) unended
     ∙ (quiet_input form lines rest).1 (all_good lines good, last)
 
 long_is_found : (form : Form) (lines : List (List ℕ)) (rest : List ℕ) → found_of rest ≡ too_long → (with_found form OfJobs lines (last_of rest)).found ≡ false → ⊥
 long_is_found form lines rest long quiet =
-    let sheet = sheet_of form OfJobs lines in
-    let is = found_next sheet (length lines + 1) too_long (judge_stays 1 (blank form OfJobs) lines refl) in
-    let there = ap (λ found. (with_next sheet (length lines + 1) (last_by found rest)).found) long in
-    let no = (or_parts sheet.found true (sym is ∙ sym there ∙ quiet)).1 in
+    let report = report_of form OfJobs lines in
+    let is = found_next report (length lines + 1) too_long (judge_stays 1 (blank form OfJobs) lines refl) in
+    let there = ap (λ found. (with_next report (length lines + 1) (last_by found rest)).found) long in
+    let no = (or_parts report.found true (sym is ∙ sym there ∙ quiet)).1 in
     absurd (cc)
 
 quiet_are_lists : QuietAreLists
 quiet_are_lists form lines rest remaining own may quiet = elim may [
   | inl long ↦ absurd (long_is_found form lines rest long quiet)
   | inr end ↦
-      let there = ap (λ found. (with_next (sheet_of form OfJobs lines) (length lines + 1) (last_by found rest)).found) end.1 in
+      let there = ap (λ found. (with_next (report_of form OfJobs lines) (length lines + 1) (last_by found rest)).found) end.1 in
       let h = (quiet_input form lines rest).0 (sym there ∙ quiet) in
       (are_good lines own h.0, end.1, h.1)
 ]

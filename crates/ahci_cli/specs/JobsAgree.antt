@@ -4,7 +4,7 @@ use Rattle.streams.specs.Reading.{MayEnd, last_of}
 use Rattle.streams.specs.Unread.{found_of, unfinished}
 use Rattle.ahci_script.specs.Jobs.{job_line_of}
 use Rattle.ahci_check.specs.Judges.{job_complaint}
-use Rattle.ahci_check.specs.Sheets.{AreLines, with_found}
+use Rattle.ahci_check.specs.Reports.{AreLines, with_found}
 use Rattle.ahci_check.specs.declared.form.Form.{Form}
 use Rattle.ahci_check.specs.declared.judge.Judge.TheVariants.{OfJobs}
 use Rattle.ahci_jobs.specs.JobList.{AreGood, IsGood}

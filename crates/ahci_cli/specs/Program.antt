@@ -12,7 +12,7 @@ use Rattle.ahci_args.specs.declared.request.Asked.{Asked}
 use Rattle.ahci_args.specs.declared.request.Asked.TheVariants.{Replay, Run, Identify, Log, Trace, Check, Draw}
 use Rattle.ahci_args.specs.declared.run_form.RunForm.{RunForm}
 use Rattle.ahci_args.specs.declared.run_form.RunForm.TheVariants as asked_form
-use Rattle.ahci_check.specs.Sheets.{EndsCheck, IsChecked}
+use Rattle.ahci_check.specs.Reports.{EndsCheck, IsChecked}
 use Rattle.ahci_check.specs.declared.form.Form as check
 use Rattle.ahci_check.specs.declared.form.Form.TheVariants as told
 use Rattle.ahci_check.specs.declared.judge.Judge.{Judge}

@@ -241,7 +241,7 @@ closes_rows tags lines plain =
     closes_all (row_at tags lines) (range_with_len 0 (rows_in (length lines)))
     (λ row. closes_row tags (row_of lines row) row (all_take (list_all is_plain) 100 (drop (100 * row) lines) (all_drop (list_all is_plain) (100 * row) lines plain)))
 
--- ---- the lines of a sheet
+-- ---- the lines of a listing
 
 onto_plain : (x : ℕ) (parts : List (List ℕ)) → is_plain x ≡ true → list_all (list_all is_plain) parts ≡ true → list_all (list_all is_plain) (onto_first x parts) ≡ true
 onto_plain x [] p h = and_from _ _ (and_from _ _ p refl) refl
@@ -256,14 +256,14 @@ split_case : (b : Bool) (x : ℕ) (parts : List (List ℕ)) → (b ≡ false →
 split_case true x parts plain h = and_from _ _ refl h
 split_case false x parts plain h = onto_plain x parts (plain refl) h
 
--- a byte of a sheet: its lines are plain
-abbrev pub is_sheet_byte : ℕ → Bool
-is_sheet_byte byte = is_plain byte || (byte == 10)
+-- a byte of a listing: its lines are plain
+abbrev pub is_listing_byte : ℕ → Bool
+is_listing_byte byte = is_plain byte || (byte == 10)
 
-split_plain : (sheet : List ℕ) → list_all is_sheet_byte sheet ≡ true → list_all (list_all is_plain) (slice_split (λ b. b == 10) sheet) ≡ true
+split_plain : (listing : List ℕ) → list_all is_listing_byte listing ≡ true → list_all (list_all is_plain) (slice_split (λ b. b == 10) listing) ≡ true
 split_plain [] h = refl
-split_plain (x ∷ sheet) h =
-    split_case (x == 10) x (slice_split (λ b. b == 10) sheet) (either_plain (is_plain x) (x == 10) (and_parts _ _ h).0) (split_plain sheet (and_parts _ _ h).1)
+split_plain (x ∷ listing) h =
+    split_case (x == 10) x (slice_split (λ b. b == 10) listing) (either_plain (is_plain x) (x == 10) (and_parts _ _ h).0) (split_plain listing (and_parts _ _ h).1)
 
-pub plain_lines : (from to : ℕ) (sheet : List ℕ) → list_all is_sheet_byte sheet ≡ true → list_all (list_all is_plain) (lines_from from to sheet) ≡ true
-plain_lines from to sheet h = all_filter (list_all is_plain) (is_asked from to) (slice_split (λ b. b == 10) sheet) (split_plain sheet h)
+pub plain_lines : (from to : ℕ) (listing : List ℕ) → list_all is_listing_byte listing ≡ true → list_all (list_all is_plain) (lines_from from to listing) ≡ true
+plain_lines from to listing h = all_filter (list_all is_plain) (is_asked from to) (slice_split (λ b. b == 10) listing) (split_plain listing h)

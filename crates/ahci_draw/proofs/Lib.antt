@@ -6,4 +6,4 @@ pub mod ClosedLemmas
 pub mod PictureLemmas
 pub mod CharacterLemmas
 pub mod PlainLemmas
-pub mod SheetLemmas
+pub mod ListingLemmas

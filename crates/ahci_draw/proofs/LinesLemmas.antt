@@ -1,4 +1,4 @@
--- What is in the lines of a sheet, by their places.
+-- What is in the lines of a listing, by their places.
 use Rattle.std.proofs.Common.{◌≡◌, ℕ, ◌-◌, ◌*◌, ◌<◌, List, [], ◌∷◌, ap, sym, ◌∙◌, refl, arith, length, take, drop, get_or, map, length-drop}
 use Rattle.std.specs.Prelude.{slice_index_or}
 use Rattle.std.specs.Borrow.{Bor}

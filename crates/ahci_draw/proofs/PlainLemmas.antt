@@ -1,4 +1,4 @@
--- The sheet of a script has plain lines, whatever it answers.
+-- The listing of a script has plain lines, whatever it answers.
 use Rattle.std.proofs.Common.{◌≡◌, ℕ, suc, zero, ◌+◌, ◌-◌, ◌%◌, ◌<◌, ◌==◌, Bool, true, false, List, [], ◌∷◌, ◌++◌, ap, sym, ◌∙◌, refl, subst, arith, codes, length, not, ◌||◌, Option, None, Some, le-leb}
 use Rattle.std.specs.Prelude.{slice_index_or, max}
 use Rattle.std.specs.Fmt.{decimal}
@@ -18,19 +18,19 @@ use Rattle.ncq_journal.specs.Work.{Work, Read, Write, sectors_of}
 use Rattle.ncq_journal.specs.declared.phase.Phase.{Phase}
 use Rattle.ncq_journal.specs.declared.phase.Phase.TheVariants.{Free, Issued, Accepted, Rejected, Broken, Held, Done}
 use Rattle.ncq_journal.specs.declared.plain.Plain.TheVariants.{Identify, Flush, ReadLog}
-use Rattle.ahci_draw.specs.Drawn.{IsSheet, IsSheetTo, picture_lines}
+use Rattle.ahci_draw.specs.Drawn.{IsListing, IsListingTo, picture_lines}
 use Rattle.ahci_draw.specs.Entries.{entries_text, line_of, moved_by}
 use Rattle.ahci_draw.specs.Line.{cell, cell_at, cells, entry_line, lane_of, sign_of}
 use Rattle.ahci_draw.specs.Lines.{lines_from}
 use Rattle.ahci_draw.specs.Markup.{IsClosed, is_plain}
 use Rattle.ahci_draw.specs.Mark.{mark_of}
-use Rattle.ahci_draw.specs.Sheet.{added_between, sheet_text}
+use Rattle.ahci_draw.specs.Listing.{added_between, listing_text}
 use Rattle.ahci_draw.specs.Tags.{in_device, moved, unused}
 use Rattle.ahci_draw.specs.Text.{letter, numbered}
 use Rattle.ahci_draw.specs.Words.{entry_words, failure_words, issue_words, title_text, zero_words}
 use Rattle.ahci_draw.specs.declared.tag_state.TagState.{TagState}
 use Rattle.ahci_draw.proofs.MarkupLemmas.{plain_append, plain_decimal, plain_hex}
-use Rattle.ahci_draw.proofs.ClosedLemmas.{Plain, is_sheet_byte, plain_lines, plain_numbered}
+use Rattle.ahci_draw.proofs.ClosedLemmas.{Plain, is_listing_byte, plain_lines, plain_numbered}
 use Rattle.ahci_draw.proofs.PictureLemmas.{closed_picture}
 
 -- ---- words
@@ -133,35 +133,35 @@ plain_lane (Collect tag) = plain_letter tag
 plain_lane (Unqueued command) = refl
 plain_lane (Zero lba sectors) = refl
 
--- ---- the sheet
+-- ---- the listing
 
-abbrev OfSheet : List ℕ → Type 0
-OfSheet text = list_all is_sheet_byte text ≡ true
+abbrev OfListing : List ℕ → Type 0
+OfListing text = list_all is_listing_byte text ≡ true
 
 so : (a b : Bool) → a ≡ true → (a || b) ≡ true
 so true b h = refl
 so false b h = absurd (cc)
 
-of_plain : (text : List ℕ) → Plain text → OfSheet text
+of_plain : (text : List ℕ) → Plain text → OfListing text
 of_plain [] h = refl
 of_plain (b ∷ text) h = and_from _ _ (so (is_plain b) (b == 10) (and_parts _ _ h).0) (of_plain text (and_parts _ _ h).1)
 
-of_both : (a b : List ℕ) → OfSheet a → OfSheet b → OfSheet (a ++ b)
+of_both : (a b : List ℕ) → OfListing a → OfListing b → OfListing (a ++ b)
 of_both [] b p q = q
 of_both (x ∷ a) b p q = and_from _ _ (and_parts _ _ p).0 (of_both a b (and_parts _ _ p).1 q)
 
-of_entry : (number : ℕ) (tags : List TagState) (entry : Entry) → OfSheet (entry_line number tags entry)
+of_entry : (number : ℕ) (tags : List TagState) (entry : Entry) → OfListing (entry_line number tags entry)
 unfolding entry_line
 of_entry number tags entry =
     of_plain (cells tags ++ ((letter (in_device tags) ∷ sign_of entry ∷ lane_of entry ∷ []) ++ title_text number entry))
     (plain_append (cells tags) ((letter (in_device tags) ∷ sign_of entry ∷ lane_of entry ∷ []) ++ title_text number entry) (plain_cells tags)
     (and_from _ _ (plain_letter (in_device tags)) (and_from _ _ (plain_sign_of entry) (and_from _ _ (plain_lane entry) (plain_title number entry)))))
 
-of_line : (number : ℕ) (tags : List TagState) (entry : Option Entry) → OfSheet (line_of number tags entry)
+of_line : (number : ℕ) (tags : List TagState) (entry : Option Entry) → OfListing (line_of number tags entry)
 of_line number tags None = refl
 of_line number tags (Some entry) = of_entry number (moved tags entry) entry
 
-of_entries : (first : ℕ) (past : List Entry) (tags : List TagState) (number count : ℕ) → OfSheet (entries_text first past tags number count)
+of_entries : (first : ℕ) (past : List Entry) (tags : List TagState) (number count : ℕ) → OfListing (entries_text first past tags number count)
 unfolding entries_text
 of_entries first past tags number zero = refl
 of_entries first past tags number (suc more) =
@@ -169,41 +169,41 @@ of_entries first past tags number (suc more) =
     of_both (line_of number tags found) (entries_text first past (moved_by tags found) (number + 1) more) (of_line number tags found)
     (of_entries first past (moved_by tags found) (number + 1) more)
 
-of_added : (before after : Option PortView) → OfSheet (added_between before after)
+of_added : (before after : Option PortView) → OfListing (added_between before after)
 of_added before None = refl
 of_added before (Some port) =
     let mark = mark_of before in
     of_entries port.first port.past mark.tags (max mark.end port.first) (next_number port - max mark.end port.first)
 
-of_answer : (number : ℕ) (line : List ℕ) (said : Said) (before after : Option PortView) → OfSheet (sheet_text number line said before after)
+of_answer : (number : ℕ) (line : List ℕ) (said : Said) (before after : Option PortView) → OfListing (listing_text number line said before after)
 of_answer number line said before after = of_both (added_between before after) (10 ∷ []) (of_added before after) refl
 
-of_run : (number : ℕ) (first : List ℕ) (port : Option PortView) (l : Line) (next : Option PortView) (added : List ℕ) → RunsLine sheet_text number first port l next added → OfSheet added
-of_run number first port line.Skip next added ran = subst OfSheet (sym ran.1) refl
-of_run number first port (line.Run command) next added ran = subst OfSheet (sym ran.spelled) (of_answer number first ran.said port next)
+of_run : (number : ℕ) (first : List ℕ) (port : Option PortView) (l : Line) (next : Option PortView) (added : List ℕ) → RunsLine listing_text number first port l next added → OfListing added
+of_run number first port line.Skip next added ran = subst OfListing (sym ran.1) refl
+of_run number first port (line.Run command) next added ran = subst OfListing (sym ran.spelled) (of_answer number first ran.said port next)
 
-of_lines : (number : ℕ) (port : Option PortView) (lines : List (List ℕ)) (text : List ℕ) (last : Option PortView) → Adds sheet_text number port lines text last → OfSheet text
+of_lines : (number : ℕ) (port : Option PortView) (lines : List (List ℕ)) (text : List ℕ) (last : Option PortView) → Adds listing_text number port lines text last → OfListing text
 of_lines _ _ _ _ _ (no_line number port) = refl
 of_lines _ _ _ _ _ (one_more number port first l next added more text last found is ran rest) =
     of_both added text (of_run number first port l next added ran) (of_lines (number + 1) next more text last rest)
 
-of_replayed : (r s : Option (List ℕ)) (sheet : List ℕ) → IsSheet r s sheet → OfSheet sheet
-of_replayed r s sheet h =
+of_replayed : (r s : Option (List ℕ)) (listing : List ℕ) → IsListing r s listing → OfListing listing
+of_replayed r s listing h =
     let g = h.last in
-    subst OfSheet (sym (h.written ∙ g.grown))
+    subst OfListing (sym (h.written ∙ g.grown))
     (of_both h.text g.added (of_lines 1 None h.lines h.text h.port h.answered) (of_run (length h.lines + 1) h.rest h.port g.spelled h.last_port g.added g.ran))
 
-of_replayed_to : (r s : Option (List ℕ)) (f : ScriptFault) (sheet : List ℕ) → IsSheetTo r s f sheet → OfSheet sheet
-of_replayed_to r s (fault.Line n) sheet h = subst OfSheet (sym h.holds.0) (of_lines 1 None h.lines h.text h.port h.answered)
-of_replayed_to r s fault.Read sheet h = subst OfSheet (sym h.holds.0) (of_lines 1 None h.lines h.text h.port h.answered)
-of_replayed_to r s fault.Write sheet h = absurd h
-of_replayed_to r s fault.OutOfMemory sheet h = absurd h
+of_replayed_to : (r s : Option (List ℕ)) (f : ScriptFault) (listing : List ℕ) → IsListingTo r s f listing → OfListing listing
+of_replayed_to r s (fault.Line n) listing h = subst OfListing (sym h.holds.0) (of_lines 1 None h.lines h.text h.port h.answered)
+of_replayed_to r s fault.Read listing h = subst OfListing (sym h.holds.0) (of_lines 1 None h.lines h.text h.port h.answered)
+of_replayed_to r s fault.Write listing h = absurd h
+of_replayed_to r s fault.OutOfMemory listing h = absurd h
 
-closed_sheet : (from to : ℕ) (sheet : List ℕ) → OfSheet sheet → IsClosed (picture_lines from to sheet)
-closed_sheet from to sheet h = closed_picture (lines_from from to sheet) (plain_lines from to sheet h)
+closed_listing : (from to : ℕ) (listing : List ℕ) → OfListing listing → IsClosed (picture_lines from to listing)
+closed_listing from to listing h = closed_picture (lines_from from to listing) (plain_lines from to listing h)
 
-pub closed_whole : (from to : ℕ) (r s : Option (List ℕ)) (sheet : List ℕ) → IsSheet r s sheet → IsClosed (picture_lines from to sheet)
-closed_whole from to r s sheet h = closed_sheet from to sheet (of_replayed r s sheet h)
+pub closed_whole : (from to : ℕ) (r s : Option (List ℕ)) (listing : List ℕ) → IsListing r s listing → IsClosed (picture_lines from to listing)
+closed_whole from to r s listing h = closed_listing from to listing (of_replayed r s listing h)
 
-pub closed_before : (from to : ℕ) (r s : Option (List ℕ)) (f : ScriptFault) (sheet : List ℕ) → IsSheetTo r s f sheet → IsClosed (picture_lines from to sheet)
-closed_before from to r s f sheet h = closed_sheet from to sheet (of_replayed_to r s f sheet h)
+pub closed_before : (from to : ℕ) (r s : Option (List ℕ)) (f : ScriptFault) (listing : List ℕ) → IsListingTo r s f listing → IsClosed (picture_lines from to listing)
+closed_before from to r s f listing h = closed_listing from to listing (of_replayed_to r s f listing h)

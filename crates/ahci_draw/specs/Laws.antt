@@ -2,18 +2,18 @@
 use Rattle.std.specs.Prelude.{◌≡◌, ◌<◌, ◌≤◌, ℕ, ◌+◌, ◌*◌, ◌/◌, true, List, Option, flat_map, length}
 use Rattle.std.specs.List.{list_all, range_with_len}
 use Rattle.ahci_replay.specs.declared.script_fault.ScriptFault.{ScriptFault}
-use Rattle.ahci_draw.specs.Drawn.{IsSheet, IsSheetTo, picture_lines}
+use Rattle.ahci_draw.specs.Drawn.{IsListing, IsListingTo, picture_lines}
 use Rattle.ahci_draw.specs.Markup.{IsClosed, is_character}
 use Rattle.ahci_draw.specs.Places.{edge, part_of}
 use Rattle.ahci_draw.specs.Row.{row_of, rows_in}
 
 -- what `draw` writes of a script that was replayed to its end is closed
 abbrev pub AreClosed : Type 0
-AreClosed = (from to : ℕ) (r s : Option (List ℕ)) (sheet : List ℕ) → IsSheet r s sheet → IsClosed (picture_lines from to sheet)
+AreClosed = (from to : ℕ) (r s : Option (List ℕ)) (listing : List ℕ) → IsListing r s listing → IsClosed (picture_lines from to listing)
 
 -- and so is what it writes at a fault of the script
 abbrev pub AreClosedBefore : Type 0
-AreClosedBefore = (from to : ℕ) (r s : Option (List ℕ)) (f : ScriptFault) (sheet : List ℕ) → IsSheetTo r s f sheet → IsClosed (picture_lines from to sheet)
+AreClosedBefore = (from to : ℕ) (r s : Option (List ℕ)) (f : ScriptFault) (listing : List ℕ) → IsListingTo r s f listing → IsClosed (picture_lines from to listing)
 
 -- what is closed has the characters of XML alone
 abbrev pub HaveCharactersAlone : Type 0

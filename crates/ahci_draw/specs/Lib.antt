@@ -5,7 +5,7 @@ pub mod Tags
 pub mod Line
 pub mod Entries
 pub mod Mark
-pub mod Sheet
+pub mod Listing
 pub mod Lines
 pub mod Strip
 pub mod Signs

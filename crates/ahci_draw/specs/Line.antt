@@ -1,4 +1,4 @@
--- The line of an entry in the sheet: a letter for each of the 32 tags, one for how many tags the device has, the entry's sign, the
+-- The line of an entry in the listing: a letter for each of the 32 tags, one for how many tags the device has, the entry's sign, the
 -- lane that it is in, and the entry in words. No byte of it but the line feed at its front is one that XML reads as more than itself.
 use Rattle.std.specs.Prelude.{ℕ, if◌then◌else◌, Bool, List, [], ◌∷◌, ◌++◌, flat_map, slice_index_or}
 use Rattle.std.specs.List.{range_with_len}

@@ -1,4 +1,4 @@
--- The lines of a sheet, and what is in a line.
+-- The lines of a listing, and what is in a line.
 use Rattle.std.specs.Prelude.{ℕ, ◌==◌, ◌&&◌, Bool, false, List, map, filter, nat_le, take, drop, Option, None, Some, position, Result, Ok, Err}
 use Rattle.std.specs.Borrow.{Bor}
 use Rattle.std.specs.List.{slice_split}
@@ -42,4 +42,4 @@ is_asked from to line = is_within from to (decimal_of (label_of (title_of line))
 
 -- the lines between line feeds of the entries with these numbers
 abbrev pub lines_from : (from to : ℕ) → List ℕ → List (List ℕ)
-lines_from from to sheet = filter (is_asked from to) (slice_split (λ byte. byte == 10) sheet)
+lines_from from to listing = filter (is_asked from to) (slice_split (λ byte. byte == 10) listing)

@@ -1,4 +1,4 @@
--- The picture that a sheet gives.
+-- The picture that a listing gives.
 use Rattle.std.specs.Prelude.{ℕ, List, ◌++◌, codes, length}
 use Rattle.ahci_draw.specs.Heading.{heading_text}
 use Rattle.ahci_draw.specs.Lanes.{tags_in}
@@ -13,6 +13,6 @@ picture_with tags lines = heading_text (length lines) (length tags) ++ (body_tex
 abbrev pub picture_of : List (List ℕ) → List ℕ
 picture_of lines = picture_with (tags_in lines) lines
 
--- the picture of a sheet's entries from one number to another, without its last line feed
+-- the picture of a listing's entries from one number to another, without its last line feed
 abbrev pub picture_text : (from to : ℕ) → List ℕ → List ℕ
-picture_text from to sheet = picture_of (lines_from from to sheet)
+picture_text from to listing = picture_of (lines_from from to listing)

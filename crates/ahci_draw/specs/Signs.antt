@@ -1,4 +1,4 @@
--- The signs of entries, and what is above the lanes. A line of the sheet is a column of the row.
+-- The signs of entries, and what is above the lanes. A line of the listing is a column of the row.
 use Rattle.std.specs.Prelude.{ℕ, ◌*◌, ◌%◌, ◌==◌, if◌then◌else◌, List, [], ◌∷◌, ◌++◌, codes, flat_map, length, slice_index, slice_index_or}
 use Rattle.std.specs.List.{range_with_len}
 use Rattle.ahci_draw.specs.Lines.{label_of, lane_place, sign_place, title_of}

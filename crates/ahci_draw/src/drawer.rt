@@ -2,17 +2,17 @@
 
 ghost use Rattle.std.specs.Prelude.{◌≡◌};
 ghost use Rattle.ahci_draw.specs.Mark.{mark_of};
-ghost use Rattle.ahci_draw.specs.Sheet.{sheet_text};
+ghost use Rattle.ahci_draw.specs.Listing.{listing_text};
 
 use crate::entries::push_added;
 use crate::mark::Mark;
 use ahci_port::Port;
-use ahci_replay::Teller;
+use ahci_replay::AnswerWriter;
 use ahci_script::{Output, ScriptAnswer};
 use std::alloc::{AllocError, Allocator};
 use streams::TextBuffer;
 
-/// Tells of each answer which entries its command has added, on the sheet from which the picture is made.
+/// Tells of each answer which entries its command has added, on the listing from which the picture is made.
 #[derive(Drop)]
 pub(crate) struct Drawer<A: Allocator> {
     alloc: A,
@@ -23,9 +23,9 @@ impl<A: Allocator + Copy> Drawer<A> {
     ghost use Rattle.std.specs.Option.{option_copied};
     ghost use Rattle.ahci_port.specs.PortView.{PortView};
     ghost use Rattle.ahci_draw.specs.Mark.{mark_of};
-    ghost use Rattle.ahci_draw.specs.Sheet.{added_between};
+    ghost use Rattle.ahci_draw.specs.Listing.{added_between};
 
-    /// The sheet is made with this allocator.
+    /// The listing is made with this allocator.
     pub(crate) fn new(alloc: A) -> Self {
         Drawer { alloc }
     }
@@ -43,10 +43,10 @@ impl<A: Allocator + Copy> Drawer<A> {
     }
 }
 
-impl<A: Allocator + Copy> Teller<A> for Drawer<A> {
+impl<A: Allocator + Copy> AnswerWriter<A> for Drawer<A> {
     type Before = Mark;
 
-    ghost telling = { sheet_text };
+    ghost telling = { listing_text };
 
     ghost IsOf = { λ mark port. mark ≡ mark_of port };
 

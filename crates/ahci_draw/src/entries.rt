@@ -3,7 +3,7 @@
 ghost use Rattle.std.specs.Prelude.{◌≡◌, ◌++◌, ◌-◌, OnOk, length};
 ghost use Rattle.ncq_journal.specs.Numbering.{entry_numbered, number_of};
 ghost use Rattle.ahci_draw.specs.Entries.{entries_text, line_of, moved_by};
-ghost use Rattle.ahci_draw.specs.Sheet.{added_on};
+ghost use Rattle.ahci_draw.specs.Listing.{added_on};
 
 use crate::line::push_line;
 use crate::mark::Mark;

@@ -5,7 +5,7 @@ ghost use Rattle.std.specs.List.{list_any};
 ghost use Rattle.ahci_draw.specs.Lanes.{cells_in, device_text, has_lane, is_told, lane_text, lanes_text, tags_in};
 ghost use Rattle.ahci_draw.specs.Lines.{texts};
 
-use crate::sheet::{DEVICE, LANE, byte_at};
+use crate::listing::{DEVICE, LANE, byte_at};
 use crate::signs::push_signs;
 use crate::strip::{Strip, push_runs};
 use crate::text::{letter, push_number};

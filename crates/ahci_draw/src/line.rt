@@ -1,4 +1,4 @@
-//! The line of an entry in the sheet: a byte for each thing that is drawn, and the entry in words.
+//! The line of an entry in the listing: a byte for each thing that is drawn, and the entry in words.
 
 ghost use Rattle.std.specs.Prelude.{◌≡◌, ◌++◌, OnOk};
 ghost use Rattle.ncq_journal.specs.Entry.{entry_of};

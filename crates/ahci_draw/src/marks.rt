@@ -4,8 +4,8 @@ ghost use Rattle.std.specs.Prelude.{◌≡◌, ◌++◌, ◌<◌, OnOk};
 ghost use Rattle.ahci_draw.specs.Lines.{texts};
 ghost use Rattle.ahci_draw.specs.Overview.{line_at, mark_at, mark_colour, mark_head, mark_shape, mark_top, marks_text, more_text};
 
+use crate::listing::title_of;
 use crate::places::{count_of, edge, first_of, part_of};
-use crate::sheet::title_of;
 use crate::text::{Piece, push_number, push_pieces};
 use std::alloc::{AllocError, Allocator};
 use streams::TextBuffer;

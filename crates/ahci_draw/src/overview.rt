@@ -6,10 +6,10 @@ ghost use Rattle.ahci_draw.specs.Overview.{body_text, counts_shape, counts_text,
 
 use crate::grid::push_grid;
 use crate::lanes::cells_in;
+use crate::listing::{SIGN, label_of, title_of};
 use crate::marks::{line_at, push_marks};
 use crate::places::{count_of, edge, first_of};
 use crate::row::{push_rows, row_left, row_top, rows_in};
-use crate::sheet::{SIGN, label_of, title_of};
 use crate::signs::push_label_at;
 use crate::text::{Piece, push_number, push_pieces};
 use std::alloc::{AllocError, Allocator};

@@ -1,4 +1,4 @@
-//! The picture that a sheet gives.
+//! The picture that a listing gives.
 
 ghost use Rattle.std.specs.Prelude.{◌≡◌, ◌≤◌, IfOk, length};
 ghost use Rattle.ahci_draw.specs.Lines.{texts};
@@ -6,8 +6,8 @@ ghost use Rattle.ahci_draw.specs.Picture.{picture_of, picture_text, picture_with
 
 use crate::heading::push_heading;
 use crate::lanes::tags_in;
+use crate::listing::lines_from;
 use crate::overview::push_body;
-use crate::sheet::lines_from;
 use std::alloc::{AllocError, Allocator};
 use streams::TextBuffer;
 
@@ -35,14 +35,14 @@ fn picture_of<A: Allocator + Copy>(alloc: A, lines: &[&[u8]]) -> Result<Vec<u8, 
     picture_with(alloc, &tags, lines)
 }
 
-/// The picture of a sheet's entries from one number to another, without its last line feed.
+/// The picture of a listing's entries from one number to another, without its last line feed.
 pub(crate) fn picture_text<A: Allocator + Copy>(
     alloc: A,
     from: u64,
     to: u64,
-    sheet: &[u8],
+    listing: &[u8],
 ) -> Result<Vec<u8, A>, AllocError>
-    ensures { IfOk result (λ text. text.items ≡ picture_text from to sheet.now) }
+    ensures { IfOk result (λ text. text.items ≡ picture_text from to listing.now) }
 {
-    picture_of(alloc, &lines_from(alloc, from, to, sheet)?)
+    picture_of(alloc, &lines_from(alloc, from, to, listing)?)
 }

@@ -4,7 +4,7 @@ ghost use Rattle.std.specs.Prelude.{◌≡◌, ◌++◌, OnOk};
 ghost use Rattle.ahci_draw.specs.Lines.{texts};
 ghost use Rattle.ahci_draw.specs.Signs.{head_at, heads_text, label_at, rule_at, rule_shape, sign_at, signs_text};
 
-use crate::sheet::{LANE, SIGN, byte_at, label_of, title_of};
+use crate::listing::{LANE, SIGN, byte_at, label_of, title_of};
 use crate::text::{Piece, push_pieces};
 use std::alloc::{AllocError, Allocator};
 use streams::TextBuffer;

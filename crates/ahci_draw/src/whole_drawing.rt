@@ -4,7 +4,7 @@ ghost use Rattle.std.specs.Prelude.{◌≡◌, IfErr, OnOk};
 ghost use Rattle.streams.specs.Ends.{with_flush};
 ghost use Rattle.std.specs.Io.KnownBytes.{Appends};
 ghost use Rattle.ahci_replay.specs.Transcript.{ReadsBefore};
-ghost use Rattle.ahci_draw.specs.Drawn.{DrawWrites, Drawn, DrawnTo, IsSentTo, SendWrites, has_sheet, picture_lines};
+ghost use Rattle.ahci_draw.specs.Drawn.{DrawWrites, Drawn, DrawnTo, IsSentTo, SendWrites, has_listing, picture_lines};
 
 use crate::drawer::Drawer;
 use crate::picture::picture_text;
@@ -61,18 +61,18 @@ pub fn draw_with<R: Read, W: Write, A: Allocator + Copy>(
     ensures unfailed { OnOk result (reads.new.failed ≡ reads.old.failed) }
     ensures reads { IfErr result (ReadsBefore reads.old reads.new) }
 {
-    let mut sheet = Vec::new(alloc);
+    let mut listing = Vec::new(alloc);
     let (drawer, mut sent) = (Drawer::new(alloc), Writes::new());
-    let replayed = replay_with(alloc, &drawer, reader, reads, &mut sheet, &mut sent);
-    if has_sheet(&replayed) {
-        return send(alloc, from, to, &sheet, writer, writes).and(replayed);
+    let replayed = replay_with(alloc, &drawer, reader, reads, &mut listing, &mut sent);
+    if has_listing(&replayed) {
+        return send(alloc, from, to, &listing, writer, writes).and(replayed);
     }
-    Err(ScriptFault::OutOfMemory) // a sheet takes all that it has room for
+    Err(ScriptFault::OutOfMemory) // a listing takes all that it has room for
 }
 
 /// Whether a script was replayed to its end, or to a fault of its own.
-fn has_sheet(replayed: &Result<(), ScriptFault>) -> bool
-    ensures { result ≡ has_sheet replayed.now }
+fn has_listing(replayed: &Result<(), ScriptFault>) -> bool
+    ensures { result ≡ has_listing replayed.now }
 {
     matches!(
         replayed,
@@ -80,22 +80,22 @@ fn has_sheet(replayed: &Result<(), ScriptFault>) -> bool
     )
 }
 
-/// Writes the picture that a sheet gives.
+/// Writes the picture that a listing gives.
 fn send<W: Write, A: Allocator + Copy>(
     alloc: A,
     from: u64,
     to: u64,
-    sheet: &[u8],
+    listing: &[u8],
     writer: &mut W,
     writes: &mut Writes,
 ) -> Result<(), ScriptFault>
-    ensures ok { OnOk result (Appends (W.contents writer.old) (W.contents writer.new) (picture_lines from to sheet.now)) }
-    ensures err { IfErr result (IsSentTo from to sheet.now (W.contents writer.old) (W.contents writer.new)) }
+    ensures ok { OnOk result (Appends (W.contents writer.old) (W.contents writer.new) (picture_lines from to listing.now)) }
+    ensures err { IfErr result (IsSentTo from to listing.now (W.contents writer.old) (W.contents writer.new)) }
     ensures flushed { OnOk result (writes.new ≡ with_flush writes.old) }
     ensures writes { IfErr result (SendWrites writes.old writes.new) }
 {
     let mut output = Output::new(alloc);
-    output.put_text(&picture_text(alloc, from, to, sheet)?)?;
+    output.put_text(&picture_text(alloc, from, to, listing)?)?;
     output.send(writer, writes)?;
     Ok(())
 }

@@ -2,7 +2,7 @@
 use Rattle.std.proofs.Common.{◌≡◌, ℕ, Bool, true, ◌&&◌, List, Some, ap, refl, subst, sym, ◌∙◌}
 use Rattle.sata_fis.specs.Fields.{QueuedFields}
 use Rattle.hba_command.specs.declared.entry.PrdEntry.{PrdEntry}
-use Rattle.hba_memory.specs.Posting.{PostingView}
+use Rattle.hba_memory.specs.DmaWrites.{DmaWritesView}
 use Rattle.hba_memory.specs.Runs.{Put}
 use Rattle.ahci_port.specs.PortView.{PortView}
 use Rattle.ahci_port.specs.Steps.{IsStepped}
@@ -20,7 +20,7 @@ use Rattle.ahci_hba.specs.Queueing.{IsAccepted, after_acceptance, command_at, ha
 use Rattle.ahci_hba.specs.declared.ending.Ending.{Ending}
 
 -- an answer of one FIS
-pub answered_alone : (h new : HbaView) (p : PostingView) (l m : List Put) (e f : Ending) → new ≡ answering h p e → p ≡ only_after l → l ≡ m → e ≡ f
+pub answered_alone : (h new : HbaView) (p : DmaWritesView) (l m : List Put) (e f : Ending) → new ≡ answering h p e → p ≡ only_after l → l ≡ m → e ≡ f
     → new ≡ answering h (only_after m) f
 answered_alone h new p l m e f made posted listed same =
     made ∙ ap (λ x. answering h x e) (posted ∙ ap (λ x. only_after x) listed) ∙ ap (λ x. answering h (only_after m) x) same

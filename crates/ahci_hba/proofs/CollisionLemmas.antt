@@ -6,13 +6,13 @@ use Rattle.sata_fis.specs.Fields.{QueuedFields}
 use Rattle.hba_command.specs.Device.{collided}
 use Rattle.hba_command.specs.declared.action.Action.{Action}
 use Rattle.hba_command.specs.declared.action.Action.TheVariants.{Queue}
-use Rattle.hba_memory.specs.Posting.{PostingView, is_none, remaining}
+use Rattle.hba_memory.specs.DmaWrites.{DmaWritesView, is_none, remaining}
 use Rattle.ncq_journal.specs.Halted.{halted}
 use Rattle.ahci_port.specs.Faults.{op_refusal}
 use Rattle.ahci_hba.specs.Delivering.{aborted, fis_ending, received_put}
 use Rattle.ahci_hba.specs.Executing.{is_aborted, reads_error_log}
 use Rattle.ahci_hba.specs.Failing.{concluded, vacated}
-use Rattle.ahci_hba.specs.HbaView.{HbaView, Idle, Posting}
+use Rattle.ahci_hba.specs.HbaView.{HbaView, Idle, Writing}
 use Rattle.ahci_hba.specs.Keeping.{device_ended, keeping}
 use Rattle.ahci_hba.specs.Moving.{answering, ended, ending_of}
 use Rattle.ahci_hba.specs.Queueing.{command_at, goes_to_port, has_alone, has_no_blocks, has_queued, has_tag, is_failed, is_ready, only_after}
@@ -20,10 +20,10 @@ use Rattle.ahci_hba.specs.Stepping.{is_answered, may_send, work_at}
 use Rattle.ahci_hba.specs.declared.ending.Ending.{Ending}
 
 -- an answer leaves the port
-keeps_port : (h : HbaView) (p : PostingView) (e : Ending) → (answering h p e).port ≡ h.port
+keeps_port : (h : HbaView) (p : DmaWritesView) (e : Ending) → (answering h p e).port ≡ h.port
 keeps_port h p e = by (is_none (remaining p))
   where
-    by : (b : Bool) → (if b then record h { registers = ended h.registers e; work = Idle } else record h { work = Posting p e }).port ≡ h.port
+    by : (b : Bool) → (if b then record h { registers = ended h.registers e; dma = Idle } else record h { dma = Writing p e }).port ≡ h.port
     by true = refl
     by false = refl
 

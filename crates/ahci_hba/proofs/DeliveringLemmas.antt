@@ -2,7 +2,7 @@
 use Rattle.std.proofs.Common.{◌≡◌, ℕ, ◌*◌, Bool, true, false, List, refl, ap, sym, ◌∙◌}
 use Rattle.hba_command.specs.declared.entry.PrdEntry.{PrdEntry}
 use Rattle.hba_command.specs.declared.task.Task.{Task}
-use Rattle.hba_memory.specs.Posting.{PostingView}
+use Rattle.hba_memory.specs.DmaWrites.{DmaWritesView}
 use Rattle.hba_memory.specs.Runs.{Put}
 use Rattle.ahci_table.specs.Window.{WindowState}
 use Rattle.sata_fis.specs.Encoding.{d2h_bytes}
@@ -23,28 +23,28 @@ use Rattle.hba_command.specs.declared.reply.Reply.{Reply}
 use Rattle.ahci_hba.specs.Keeping.{changed_by}
 use Rattle.ahci_hba.specs.Powering.{turned}
 use Rattle.ahci_hba.specs.Queueing.{command_at, list_in, only_after}
-use Rattle.ahci_hba.specs.HbaView.{HbaView, WorkView, Idle, Pio as InPio, Served}
+use Rattle.ahci_hba.specs.HbaView.{HbaView, DmaView, Idle, Pio as InPio, Served}
 use Rattle.ahci_hba.specs.Transfer.{TransferView}
 use Rattle.ahci_hba.specs.Moving.{answering, ending_of}
 use Rattle.ahci_hba.specs.declared.ending.Ending.{Ending}
 use Rattle.ahci_hba.specs.declared.last_fis.LastFis.{LastFis}
 
-pub delivers : (h new : HbaView) (slot : ℕ) (t : Task) (w : WindowState) (list : List PrdEntry) (bytes : List ℕ) (a : Action) (was : WorkView)
-    → was ≡ Served slot t w list → bytes ≡ delivered was → a ≡ action_of t → new ≡ answer_with (record h { work = Idle }) slot list bytes a → new ≡ served_answer h was
+pub delivers : (h new : HbaView) (slot : ℕ) (t : Task) (w : WindowState) (list : List PrdEntry) (bytes : List ℕ) (a : Action) (was : DmaView)
+    → was ≡ Served slot t w list → bytes ≡ delivered was → a ≡ action_of t → new ≡ answer_with (record h { dma = Idle }) slot list bytes a → new ≡ served_answer h was
 delivers h new slot t w list bytes a was served given acts made =
     made
-    ∙ ap (λ b. answer_with (record h { work = Idle }) slot list b a) (given ∙ ap (λ x. delivered x) served)
-    ∙ ap (λ x. answer_with (record h { work = Idle }) slot list (bytes_for t w) x) acts
+    ∙ ap (λ b. answer_with (record h { dma = Idle }) slot list b a) (given ∙ ap (λ x. delivered x) served)
+    ∙ ap (λ x. answer_with (record h { dma = Idle }) slot list (bytes_for t w) x) acts
     ∙ idle_or_not h slot list (bytes_for t w) (action_of t)
     ∙ sym (ap (λ x. served_answer h x) served)
   where
     either : (h : HbaView) (write : Bool) (slot : ℕ) (list : List PrdEntry) (bytes : List ℕ) (n : ℕ)
-        → dma_answer (record h { work = Idle }) slot write list bytes n ≡ dma_answer h slot write list bytes n
+        → dma_answer (record h { dma = Idle }) slot write list bytes n ≡ dma_answer h slot write list bytes n
     either h true slot list bytes n = refl
     either h false slot list bytes n = refl
 
     idle_or_not : (h : HbaView) (slot : ℕ) (list : List PrdEntry) (bytes : List ℕ) (a : Action)
-        → answer_with (record h { work = Idle }) slot list bytes a ≡ answer_with h slot list bytes a
+        → answer_with (record h { dma = Idle }) slot list bytes a ≡ answer_with h slot list bytes a
     idle_or_not h slot list bytes (action.Queue q) = refl
     idle_or_not h slot list bytes (action.Sectors write span ByDma) = either h write slot list bytes (512 * span.sectors)
     idle_or_not h slot list bytes (action.Sectors write span ByPio) = refl
@@ -57,14 +57,14 @@ delivers h new slot t w list bytes a was served given acts made =
     idle_or_not h slot list bytes action.Abort = refl
 
 -- the next block of a transfer
-pub steps_on : (h new : HbaView) (t : TransferView) (was : WorkView) → was ≡ InPio t → new ≡ going_on (record h { work = Idle }) t → new ≡ stepped_on h was
+pub steps_on : (h new : HbaView) (t : TransferView) (was : DmaView) → was ≡ InPio t → new ≡ going_on (record h { dma = Idle }) t → new ≡ stepped_on h was
 steps_on h new t was is made = made ∙ idle h t ∙ sym (ap (λ x. stepped_on h x) is)
   where
-    idle : (h : HbaView) (t : TransferView) → going_on (record h { work = Idle }) t ≡ going_on h t
+    idle : (h : HbaView) (t : TransferView) → going_on (record h { dma = Idle }) t ≡ going_on h t
     idle h t = refl
 
 -- a command ends with a D2H Register FIS
-pub concludes : (h taken new : HbaView) (slot : ℕ) (fis : D2hFields) (l : List Put) (p : PostingView) (bytes : List ℕ) (last : LastFis) (e : Ending) → taken ≡ vacated h slot
+pub concludes : (h taken new : HbaView) (slot : ℕ) (fis : D2hFields) (l : List Put) (p : DmaWritesView) (bytes : List ℕ) (last : LastFis) (e : Ending) → taken ≡ vacated h slot
     → new ≡ answering taken p e → p ≡ only_after l → l ≡ received_put taken.registers 0x40 bytes → bytes ≡ d2h_bytes fis → last ≡ fis_ending slot fis → e ≡ ending_of true last
     → new ≡ concluded h slot fis
 concludes h taken new slot fis l p bytes last e was made posted put spelt said ended =

@@ -10,7 +10,7 @@ use Rattle.hba_regs.specs.PortStates.{p_idle_selects}
 use Rattle.hba_command.specs.Power.{is_awake}
 use Rattle.hba_command.specs.declared.power.Power.{Power}
 use Rattle.hba_command.specs.declared.power.Power.TheVariants.{Sleep}
-use Rattle.ahci_hba.specs.HbaView.{HbaView, WorkView, Idle}
+use Rattle.ahci_hba.specs.HbaView.{HbaView, DmaView, Idle}
 use Rattle.ahci_hba.specs.Stepping.{answers, delivers_for, may_control, may_deliver, may_execute, may_recover, next_step, queue_step}
 use Rattle.ahci_hba.specs.declared.step.Step.{Step}
 use Rattle.ahci_hba.specs.declared.step.Step.TheVariants as step
@@ -90,12 +90,12 @@ asleep_waits h e = by (is_listening h) h.registers.port.fre (is_off h.registers.
     by false fre off Sleep e = refl
     by listening fre off p e = cc
 
-begins_none : (w : WorkView) (slot : ℕ) → is_idle w ≡ true → delivers_for w slot ≡ false
+begins_none : (w : DmaView) (slot : ℕ) → is_idle w ≡ true → delivers_for w slot ≡ false
 begins_none Idle slot e = refl
 begins_none w slot e = cc
 
-delivers_none : (h : HbaView) (slot : ℕ) → is_idle h.work ≡ true → may_deliver h slot ≡ false
-delivers_none h slot idle = by (is_running h.registers.port) h.registers.port.fre (delivers_for h.work slot) (begins_none h.work slot idle)
+delivers_none : (h : HbaView) (slot : ℕ) → is_idle h.dma ≡ true → may_deliver h slot ≡ false
+delivers_none h slot idle = by (is_running h.registers.port) h.registers.port.fre (delivers_for h.dma slot) (begins_none h.dma slot idle)
   where
     by : (running fre delivers : Bool) → delivers ≡ false → (running && (fre && delivers)) ≡ false
     by true true d e = e
@@ -109,10 +109,10 @@ last_steps h slot =
     else if may_recover h slot then Some step.Recover
     else queue_step h slot
 
-sleeps : (h : HbaView) (slot : ℕ) → h.power ≡ Sleep → is_idle h.work ≡ true → last_steps h slot ≡ None
+sleeps : (h : HbaView) (slot : ℕ) → h.power ≡ Sleep → is_idle h.dma ≡ true → last_steps h slot ≡ None
 sleeps h slot asleep idle = rw (asleep_waits h asleep, delivers_none h slot idle) refl
 
-pub asleep_answers_none : (h : HbaView) (slot : ℕ) → h.power ≡ Sleep → is_idle h.work ≡ true → answers (next_step h slot) ≡ false
+pub asleep_answers_none : (h : HbaView) (slot : ℕ) → h.power ≡ Sleep → is_idle h.dma ≡ true → answers (next_step h slot) ≡ false
 asleep_answers_none h slot asleep idle = by (may_fetch h slot) (may_control h slot) (last_steps h slot) (sleeps h slot asleep idle)
   where
     by : (fetch control : Bool) (rest : Option Step) → rest ≡ None

@@ -21,7 +21,7 @@ use Rattle.ncq_journal.specs.Phase.{phase}
 use Rattle.ncq_journal.specs.declared.phase.Phase.{Phase}
 use Rattle.ncq_journal.specs.declared.phase.Phase.TheVariants.{Accepted, Broken, Done, Free, Held, Issued, Rejected}
 use Rattle.ahci_port.specs.Faults.{is_accepted, is_issued, op_refusal}
-use Rattle.ahci_hba.specs.HbaView.{CommandView, Fetched, Sent, HbaView, WorkView, Idle, Fetching, Served, Pio, Block, Posting}
+use Rattle.ahci_hba.specs.HbaView.{CommandView, Fetched, Sent, HbaView, DmaView, Idle, Fetching, Served, Pio, Block, Writing}
 use Rattle.ahci_hba.specs.Outlook.{IsNearest, Reaches, comes_behind, delivering, is_within, nearer, step_in}
 use Rattle.ahci_hba.specs.Queueing.{command_at, distance_of, goes_to_port, has_alone, has_queued, is_before, is_empty, is_fetched, is_idle, is_listening, is_off, is_overtaken, is_ready, is_running, is_sent, may_fetch, moves_sectors, task_in, waits, work_of_action}
 use Rattle.ahci_hba.specs.Recovering.{error_log_in, error_log_of}
@@ -144,13 +144,13 @@ nearest_is_read h nearest n listening free alone is found slot low =
 
 -- ---- the next step, by a slot's command
 
-idle_delivers : (w : WorkView) (slot : ℕ) → is_idle w ≡ true → delivers_for w slot ≡ false
+idle_delivers : (w : DmaView) (slot : ℕ) → is_idle w ≡ true → delivers_for w slot ≡ false
 idle_delivers Idle slot e = refl
 idle_delivers (Fetching s r) slot e = refl
 idle_delivers (Served s t window list) slot e = cc
 idle_delivers (Pio t) slot e = cc
 idle_delivers (Block p t) slot e = refl
-idle_delivers (Posting p e) slot i = refl
+idle_delivers (Writing p e) slot i = refl
 
 none_delivered : (r f d : Bool) → d ≡ false → cond (r && (f && d)) (Some step.Deliver) None ≡ None
 none_delivered r f true e = cc
@@ -158,8 +158,8 @@ none_delivered r f false e = rw (and_false f) (rw (and_false r) refl)
 
 no_delivery : (h : HbaView) (slot : ℕ) → is_listening h ≡ true → delivery h slot ≡ None
 no_delivery h slot listening =
-    none_delivered (is_running h.registers.port) h.registers.port.fre (delivers_for h.work slot)
-    (idle_delivers h.work slot (and_parts (is_running h.registers.port) (is_idle h.work) listening).1)
+    none_delivered (is_running h.registers.port) h.registers.port.fre (delivers_for h.dma slot)
+    (idle_delivers h.dma slot (and_parts (is_running h.registers.port) (is_idle h.dma) listening).1)
 
 -- the next step with a command
 abbrev next_with : HbaView → ℕ → Option CommandView → Option Step
@@ -315,19 +315,19 @@ is_slot None slot = false
 is_slot (Some s) slot = nat_eq s slot
 
 -- of a slot that the port has done nothing for there is no step
-pub no_step : (h : HbaView) (slot : ℕ) → is_listening h ≡ false → delivers_for h.work slot ≡ false → next_step h slot ≡ None
-no_step h slot e none = next_unheard h slot e ∙ none_delivered (is_running h.registers.port) h.registers.port.fre (delivers_for h.work slot) none
+pub no_step : (h : HbaView) (slot : ℕ) → is_listening h ≡ false → delivers_for h.dma slot ≡ false → next_step h slot ≡ None
+no_step h slot e none = next_unheard h slot e ∙ none_delivered (is_running h.registers.port) h.registers.port.fre (delivers_for h.dma slot) none
 
-delivers : (w : WorkView) (slot : ℕ) (o : Option ℕ) → delivering w ≡ o → delivers_for w slot ≡ is_slot o slot
+delivers : (w : DmaView) (slot : ℕ) (o : Option ℕ) → delivering w ≡ o → delivers_for w slot ≡ is_slot o slot
 delivers Idle slot o e = sym (ap (λ x. is_slot x slot) (sym e))
 delivers (Fetching s r) slot o e = sym (ap (λ x. is_slot x slot) (sym e))
 delivers (Served s t window list) slot o e = sym (ap (λ x. is_slot x slot) (sym e))
 delivers (Pio t) slot o e = sym (ap (λ x. is_slot x slot) (sym e))
 delivers (Block p t) slot o e = sym (ap (λ x. is_slot x slot) (sym e))
-delivers (Posting p x) slot o e = sym (ap (λ x. is_slot x slot) (sym e))
+delivers (Writing p x) slot o e = sym (ap (λ x. is_slot x slot) (sym e))
 
-pub no_steps : (h : HbaView) → is_listening h ≡ false → delivering h.work ≡ None → (slot : ℕ) → slot < 32 → slice_index_or (replicate 32 None) slot None ≡ next_step h slot
-no_steps h e none slot low = get_or-replicate 32 slot None None low ∙ sym (no_step h slot e (delivers h.work slot None none))
+pub no_steps : (h : HbaView) → is_listening h ≡ false → delivering h.dma ≡ None → (slot : ℕ) → slot < 32 → slice_index_or (replicate 32 None) slot None ≡ next_step h slot
+no_steps h e none slot low = get_or-replicate 32 slot None None low ∙ sym (no_step h slot e (delivers h.dma slot None none))
 
 abbrev no_step_at_all : List (Option Step)
 no_step_at_all = replicate 32 None
@@ -336,7 +336,7 @@ long : length no_step_at_all ≡ 32
 long = length-replicate {A = Option Step} 32 None
 
 -- it is the step of one slot alone
-pub one_step : (h : HbaView) (s i : ℕ) (x : Option Step) → is_listening h ≡ false → delivering h.work ≡ Some s → i ≡ s → i < 32 → x ≡ delivery h s
+pub one_step : (h : HbaView) (s i : ℕ) (x : Option Step) → is_listening h ≡ false → delivering h.dma ≡ Some s → i ≡ s → i < 32 → x ≡ delivery h s
     → (slot : ℕ) → slot < 32 → slice_index_or (set no_step_at_all i x) slot None ≡ next_step h slot
 one_step h s i x e found at inside is slot low = by (nat_eq s slot) refl
   where
@@ -346,7 +346,7 @@ one_step h s i x e found at inside is slot low = by (nat_eq s slot) refl
         get_or-set_at no_step_at_all i slot x None (sym same ∙ sym at) (subst (λ n. i < n) (sym long) inside) ∙ is ∙ ap (delivery h) same ∙ sym (next_unheard h slot e)
     by false other =
         get_or-set_other no_step_at_all i slot x None (λ same. absurd (true≢false (sym (eq-eqb s slot (sym at ∙ sym same)) ∙ other)))
-        ∙ get_or-replicate 32 slot None None low ∙ sym (no_step h slot e (delivers h.work slot (Some s) found ∙ other))
+        ∙ get_or-replicate 32 slot None None low ∙ sym (no_step h slot e (delivers h.dma slot (Some s) found ∙ other))
 
 -- the slot of a number
 pub slot_is : (number slot : ℕ) → slot_of number ≡ Some slot → (slot < 32) × (slot ≡ number)

@@ -18,7 +18,7 @@ use Rattle.ahci_port.specs.Steps.{IsRecovered, answer_to}
 use Rattle.ahci_port.specs.declared.reply.Reply.{Reply}
 use Rattle.ahci_hba.specs.Dropping.{handed_out, is_spent, port_after}
 use Rattle.ahci_hba.specs.Executing.{paged}
-use Rattle.ahci_hba.specs.HbaView.{CommandView, HbaView, WorkView}
+use Rattle.ahci_hba.specs.HbaView.{CommandView, HbaView, DmaView}
 use Rattle.ahci_hba.specs.Queueing.{command_at, list_in}
 use Rattle.ahci_hba.specs.Recovering.{CollectsFailed, ReadsErrorLog, Recovers, error_log_in, error_page}
 use Rattle.ahci_hba.specs.States.{IsSound}
@@ -76,9 +76,9 @@ depth_after true p = refl
 depth_after false p = refl
 
 -- the controller is as sound as before
-pub still_sound : (tag : ℕ) (reply : Reply) (old collected port : PortView) (depth : ℕ) (slots : List (Option CommandView)) (work : WorkView) → IsSound old depth slots work
-    → CollectsFailed tag reply old collected → port ≡ port_after (not (is_spent collected)) collected → IsSound port depth slots work
-still_sound tag reply old collected port depth slots work s f e = record {
+pub still_sound : (tag : ℕ) (reply : Reply) (old collected port : PortView) (depth : ℕ) (slots : List (Option CommandView)) (dma : DmaView) → IsSound old depth slots dma
+    → CollectsFailed tag reply old collected → port ≡ port_after (not (is_spent collected)) collected → IsSound port depth slots dma
+still_sound tag reply old collected port depth slots dma s f e = record {
   tags =
       ap (λ p. p.depth) e ∙ depth_after (not (is_spent collected)) collected ∙ f.collected.appended.depth_same ∙ f.recovered.appended.depth_same ∙ s.tags;
   whole = s.whole;

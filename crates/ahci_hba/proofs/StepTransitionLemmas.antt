@@ -29,7 +29,7 @@ use Rattle.hba_command.specs.declared.store.Store.{Store as Stores}
 use Rattle.hba_command.specs.declared.store.Store.TheVariants as store
 use Rattle.hba_command.specs.declared.trim_range.TrimRange.{TrimRange}
 use Rattle.hba_command.specs.Uncorrectable.{marked_with}
-use Rattle.hba_memory.specs.Posting.{PostingView}
+use Rattle.hba_memory.specs.DmaWrites.{DmaWritesView}
 use Rattle.hba_memory.specs.Processing.{has_processed}
 use Rattle.hba_memory.specs.Runs.{placed}
 use Rattle.hba_regs.specs.Receiving.{after_srst_cleared, moved}
@@ -40,13 +40,13 @@ use Rattle.ncq_journal.specs.History.{History}
 use Rattle.ahci_port.specs.PortView.{PortView, sectors_in}
 use Rattle.ahci_port.specs.Steps.{answer_to}
 use Rattle.ahci_port.specs.declared.step.Stepped.{Stepped}
-use Rattle.ahci_hba.specs.Delivering.{aborted, answer_with, answered, block_in, block_out, block_posting, bytes_for, closing, dma_answer, done, finishing}
-use Rattle.ahci_hba.specs.Delivering.{fis_ending, going_on, only_before, page_answer, page_posting, queued_answer, queued_posting, read_answer, read_posting, received_put, setup_put}
+use Rattle.ahci_hba.specs.Delivering.{aborted, answer_with, answered, block_in, block_out, block_writes, bytes_for, closing, dma_answer, done, finishing}
+use Rattle.ahci_hba.specs.Delivering.{fis_ending, going_on, only_before, page_answer, page_writes, queued_answer, queued_writes, read_answer, read_writes, received_put, setup_put}
 use Rattle.ahci_hba.specs.Dropping.{is_spent, port_after}
 use Rattle.ahci_hba.specs.Executing.{Executes, Performs, can_mark, disk_page_given, host_log_given, is_aborted, log_given, long_log_in, marked_by, paged, pages_given, replied, reply_fis, stopped, stops_at, stops_with}
-use Rattle.ahci_hba.specs.Failing.{Fails, concluded, ended_at, ended_with, ending_fis, failed_posting, moved_before, own_in}
+use Rattle.ahci_hba.specs.Failing.{Fails, concluded, ended_at, ended_with, ending_fis, failed_writes, moved_before, own_in}
 use Rattle.ahci_hba.specs.Failing.{moved_sectors, queue_failed, read_failed, sectors_before, sectors_ended, sectors_failed, sectors_of, vacated}
-use Rattle.ahci_hba.specs.HbaView.{CommandView, Fetched, Sent, HbaView, WorkView, Idle, Fetching, Served, Pio, Block, Posting}
+use Rattle.ahci_hba.specs.HbaView.{CommandView, Fetched, Sent, HbaView, DmaView, Idle, Fetching, Served, Pio, Block, Writing}
 use Rattle.ahci_hba.specs.Keeping.{changed_by, device_ended, keeping}
 use Rattle.ahci_hba.specs.Logging.{logging, logs_behind}
 use Rattle.ahci_hba.specs.Marking.{marked_for, marking}
@@ -89,7 +89,7 @@ sends slot None old new s = absurd s
 accepts : (slot : ℕ) (alone : Bool) (old : HbaView) (port : PortView) (answer : Stepped) → Takes old.registers (after_acceptance slot alone old port answer).registers
 accepts slot alone old port answer = by (alone && is_taken answer)
   where
-    posted : PostingView
+    posted : DmaWritesView
     posted = only_after (fis_put old.registers port 0x40 20)
 
     end : Ending
@@ -102,11 +102,11 @@ accepts slot alone old port answer = by (alone && is_taken answer)
 -- ---- deliveries
 
 closes : (h : HbaView) (slot n : ℕ) (b : Bool) (fis : D2hFields) → Takes h.registers (closing h slot n b fis).registers
-closes h slot n b fis = answers h (read_posting h.registers slot [] n fis) (ending_of_data true b (fis_ending slot fis))
+closes h slot n b fis = answers h (read_writes h.registers slot [] n fis) (ending_of_data true b (fis_ending slot fis))
 
 reads : (h : HbaView) (slot : ℕ) (list : List PrdEntry) (bytes : List ℕ) (n : ℕ) (fis : D2hFields) → Takes h.registers (read_answer h slot list bytes n fis).registers
 reads h slot list bytes n fis =
-    answers h (read_posting h.registers slot (placed list bytes) (moved_to n list) fis) (ending_of_data (fits n list) (has_processed list n) (fis_ending slot fis))
+    answers h (read_writes h.registers slot (placed list bytes) (moved_to n list) fis) (ending_of_data (fits n list) (has_processed list n) (fis_ending slot fis))
 
 concludes : (h : HbaView) (slot : ℕ) (fis : D2hFields) → Takes h.registers (concluded h slot fis).registers
 concludes h slot fis =
@@ -114,7 +114,7 @@ concludes h slot fis =
 
 completes : (h : HbaView) (slot : ℕ) (list : List PrdEntry) (bytes : List ℕ) (whole : Bool) (n : ℕ) → Takes h.registers (queued_answer h slot list bytes whole n).registers
 completes h slot list bytes whole n =
-    answers h (queued_posting h.registers h.port (placed list bytes)) (ending_of_data whole (has_processed list n) (last_fis.Bits 0x40 0 (2 ^ slot)))
+    answers h (queued_writes h.registers h.port (placed list bytes)) (ending_of_data whole (has_processed list n) (last_fis.Bits 0x40 0 (2 ^ slot)))
 
 closes_or_reads : (h : HbaView) (slot : ℕ) (write : Bool) (list : List PrdEntry) (bytes : List ℕ) (n : ℕ) → Takes h.registers (dma_answer h slot write list bytes n).registers
 closes_or_reads h slot true list bytes n = closes h slot n (has_processed list n) done
@@ -139,15 +139,15 @@ finishes h t (Some fis) = closes (logging h (logs_behind t.logs h.logs)) t.slot 
 moves_in : (h : HbaView) (t : TransferView) → Takes h.registers (block_in h t).registers
 moves_in h t = by (is_last t)
   where
-    posted : PostingView
-    posted = block_posting h.registers t 0x40
+    posted : DmaWritesView
+    posted = block_writes h.registers t 0x40
 
     end : Ending
     end = ending_of_data (fits (512 * next_sectors t) (next_list t)) (next_processes t) (last_fis.Pio t.slot)
 
-    by : (b : Bool) → Takes h.registers (if b then answering h posted end else blocking h (block_posting h.registers t 0xC0) (next_block t)).registers
+    by : (b : Bool) → Takes h.registers (if b then answering h posted end else blocking h (block_writes h.registers t 0xC0) (next_block t)).registers
     by true = answers h posted end
-    by false = blocks h (block_posting h.registers t 0xC0) (next_block t)
+    by false = blocks h (block_writes h.registers t 0xC0) (next_block t)
 
 goes_on : (h : HbaView) (t : TransferView) → Takes h.registers (going_on h t).registers
 goes_on h t = by (nat_eq t.left 0) t.write
@@ -157,7 +157,7 @@ goes_on h t = by (nat_eq t.left 0) t.write
     by false true = blocks h (only_before (setup_put h.registers false (has_interrupt (next_block t)) 0xC0 (next_sectors t))) (next_block t)
     by false false = moves_in h t
 
-delivers : (h : HbaView) (w : WorkView) → Takes h.registers (answered h w).registers
+delivers : (h : HbaView) (w : DmaView) → Takes h.registers (answered h w).registers
 delivers h Idle = none h.registers
 delivers h (Fetching slot r) = none h.registers
 delivers h (Served slot t window list) = answers_with h slot list (bytes_for t window) (action_of t)
@@ -167,13 +167,13 @@ delivers h (Pio t) = by h.registers.port.fre
     by true = goes_on h t
     by false = none h.registers
 delivers h (Block p t) = none h.registers
-delivers h (Posting p e) = none h.registers
+delivers h (Writing p e) = none h.registers
 
 -- ---- commands that are not queued
 
 sends_page : (h : HbaView) (slot : ℕ) (list : List PrdEntry) (page : List ℕ) → Takes h.registers (page_answer (vacated h slot) slot list page).registers
 sends_page h slot list page =
-    answers (vacated h slot) (page_posting h.registers slot (placed list page) (moved_to 512 list)) (ending_of_data (fits 512 list) (has_processed list 512) (last_fis.Pio slot))
+    answers (vacated h slot) (page_writes h.registers slot (placed list page) (moved_to 512 list)) (ending_of_data (fits 512 list) (has_processed list 512) (last_fis.Pio slot))
 
 gives_page : (h : HbaView) (slot : ℕ) (p : Protocol) (list : List PrdEntry) (page : List ℕ) → Takes h.registers (paged h slot p list page).registers
 gives_page h slot ByPio list page = sends_page h slot list page
@@ -330,7 +330,7 @@ fails slot error lba (Some q) old new f =
     let n = moved_sectors old.port q lba in
     let bytes = sectors_of old.port q.lba n in
     made_by old new (queue_failed old port slot q list bytes n error) f.answered
-    (answers (record old { port = port }) (failed_posting old.registers port slot q list bytes n)
+    (answers (record old { port = port }) (failed_writes old.registers port slot q list bytes n)
     (ending_of_data (nat_eq n 0 || fits (512 * n) list) (has_processed list (512 * n)) (last_fis.Bits 0x41 error 0)))
 fails slot error lba None old new f = absurd f
 
@@ -347,7 +347,7 @@ takes_steps step.Send slot old new journal t = sends slot (command_at old slot) 
 takes_steps step.Accept slot old new journal t =
     made_by old new (awake (after_acceptance slot (has_alone (command_at old slot)) old t.0.port t.0.answer)) t.0.answered (accepts slot (has_alone (command_at old slot)) old t.0.port t.0.answer)
 takes_steps step.Serve slot old new journal t = serves_or_fails (stop_for old slot (marked_at old slot)) slot old new t.0
-takes_steps step.Deliver slot old new journal t = made_by old new (answered old old.work) t.0 (delivers old old.work)
+takes_steps step.Deliver slot old new journal t = made_by old new (answered old old.dma) t.0 (delivers old old.dma)
 takes_steps step.Execute slot old new journal t =
     executes (is_aborted old (action_of (task_in (command_at old slot)))) slot (action_of (task_in (command_at old slot))) (list_in (command_at old slot)) old new t.0
 takes_steps step.Control slot old new journal t = of_some (control_in (command_at old slot)) (λ reset h. made_by old new (controlled old slot reset) h (controls old slot reset)) t.0

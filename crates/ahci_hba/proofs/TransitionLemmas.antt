@@ -7,9 +7,9 @@ use Rattle.hba_regs.specs.declared.fatal.Fatal.{Fatal}
 use Rattle.hba_regs.specs.declared.fatal.Fatal.TheVariants as fatal
 use Rattle.hba_regs.specs.declared.signature.Signature.{Signature}
 use Rattle.hba_regs.specs.declared.signature.Signature.TheVariants.{Past, Due, Unposted}
-use Rattle.hba_memory.specs.Posting.{PostingView, advanced, is_none, remaining}
+use Rattle.hba_memory.specs.DmaWrites.{DmaWritesView, advanced, is_none, remaining}
 use Rattle.hba_memory.specs.Reading.{ReadingView, Header, Command, Entries, Content, Whole, Malformed, Short, after_bytes}
-use Rattle.ahci_hba.specs.HbaView.{HbaView, WorkView, Idle, Fetching, Served, Pio, Block, Posting}
+use Rattle.ahci_hba.specs.HbaView.{HbaView, DmaView, Idle, Fetching, Served, Pio, Block, Writing}
 use Rattle.ahci_hba.specs.Moving.{answering, block_ended, blocking, ended, ended_by, host_failed, overflowed, processed, put_done, read_so_far, setup_taken, supplied}
 use Rattle.ahci_hba.specs.Transfer.{TransferView, has_interrupt}
 use Rattle.ahci_hba.specs.Transitions.{Takes, Transition, CfisSuccess, DrOverflow, ErrFatal, PioEntry, PioUpdate, PrdSetIntr, RegFisEntry}
@@ -76,29 +76,29 @@ block_ends s t =
     both s o _ (moves_data s t.short t.processed)
     (both o (setup_taken o) _ (one o (PioEntry 0x48)) (one (setup_taken o) (PioUpdate 0xC0 0 (has_interrupt t) t.slot)))
 
-pub answers : (h : HbaView) (p : PostingView) (e : Ending) → Takes h.registers (answering h p e).registers
+pub answers : (h : HbaView) (p : DmaWritesView) (e : Ending) → Takes h.registers (answering h p e).registers
 answers h p e = by (is_none (remaining p))
   where
-    by : (b : Bool) → Takes h.registers (if b then record h { registers = ended h.registers e; work = Idle } else record h { work = Posting p e }).registers
+    by : (b : Bool) → Takes h.registers (if b then record h { registers = ended h.registers e; dma = Idle } else record h { dma = Writing p e }).registers
     by true = ends h.registers e
     by false = none h.registers
 
-pub blocks : (h : HbaView) (p : PostingView) (t : TransferView) → Takes h.registers (blocking h p t).registers
+pub blocks : (h : HbaView) (p : DmaWritesView) (t : TransferView) → Takes h.registers (blocking h p t).registers
 blocks h p t = by (is_none (remaining p))
   where
-    by : (b : Bool) → Takes h.registers (if b then record h { registers = block_ended h.registers t; work = Pio t } else record h { work = Block p t }).registers
+    by : (b : Bool) → Takes h.registers (if b then record h { registers = block_ended h.registers t; dma = Pio t } else record h { dma = Block p t }).registers
     by true = block_ends h.registers t
     by false = none h.registers
 
 -- ---- the driver's memory
 
-pub puts : (h : HbaView) (w : WorkView) → Takes h.registers (put_done h w).registers
+pub puts : (h : HbaView) (w : DmaView) → Takes h.registers (put_done h w).registers
 puts h Idle = none h.registers
 puts h (Fetching slot r) = none h.registers
 puts h (Served slot t window list) = none h.registers
 puts h (Pio t) = none h.registers
 puts h (Block p t) = blocks h (advanced p) t
-puts h (Posting p e) = answers h (advanced p) e
+puts h (Writing p e) = answers h (advanced p) e
 
 reads : (h : HbaView) (slot : ℕ) (r : ReadingView) → Takes h.registers (read_so_far h slot r).registers
 reads h slot (Whole t c list bytes) = one h.registers (CfisSuccess slot c)
@@ -109,18 +109,18 @@ reads h slot (Command header) = none h.registers
 reads h slot (Entries t c table room) = none h.registers
 reads h slot (Content t c g) = none h.registers
 
-pub supplies : (h : HbaView) (w : WorkView) (bytes : List ℕ) → Takes h.registers (supplied h w bytes).registers
+pub supplies : (h : HbaView) (w : DmaView) (bytes : List ℕ) → Takes h.registers (supplied h w bytes).registers
 supplies h Idle bytes = none h.registers
 supplies h (Fetching slot r) bytes = reads h slot (after_bytes r bytes)
 supplies h (Served slot t window list) bytes = none h.registers
 supplies h (Pio t) bytes = none h.registers
 supplies h (Block p t) bytes = none h.registers
-supplies h (Posting p e) bytes = none h.registers
+supplies h (Writing p e) bytes = none h.registers
 
-pub fails_host : (f : Fatal) (h : HbaView) (w : WorkView) → Takes h.registers (host_failed f h w).registers
+pub fails_host : (f : Fatal) (h : HbaView) (w : DmaView) → Takes h.registers (host_failed f h w).registers
 fails_host f h Idle = none h.registers
 fails_host f h (Fetching slot r) = one h.registers (ErrFatal f)
 fails_host f h (Served slot t window list) = none h.registers
 fails_host f h (Pio t) = none h.registers
 fails_host f h (Block p t) = one h.registers (ErrFatal f)
-fails_host f h (Posting p e) = one h.registers (ErrFatal f)
+fails_host f h (Writing p e) = one h.registers (ErrFatal f)

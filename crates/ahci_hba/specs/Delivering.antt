@@ -12,7 +12,7 @@ use Rattle.hba_command.specs.declared.protocol.Protocol.{Protocol}
 use Rattle.hba_command.specs.declared.protocol.Protocol.TheVariants.{Dma as ByDma}
 use Rattle.hba_command.specs.declared.task.Task.{Task}
 use Rattle.hba_memory.specs.Blocks.{BlocksView, block_puts}
-use Rattle.hba_memory.specs.Posting.{PostingView}
+use Rattle.hba_memory.specs.DmaWrites.{DmaWritesView}
 use Rattle.hba_memory.specs.Processing.{has_processed}
 use Rattle.hba_memory.specs.Reading.{is_write}
 use Rattle.hba_memory.specs.Runs.{Put, placed}
@@ -21,7 +21,7 @@ use Rattle.hba_regs.specs.HbaState.{HbaState}
 use Rattle.ahci_port.specs.PortView.{PortView}
 use Rattle.ahci_table.specs.Text.{text}
 use Rattle.ahci_table.specs.Window.{WindowState}
-use Rattle.ahci_hba.specs.HbaView.{HbaView, WorkView, Idle, Served, Pio}
+use Rattle.ahci_hba.specs.HbaView.{HbaView, DmaView, Idle, Served, Pio}
 use Rattle.ahci_hba.specs.Logging.{logging, logs_behind}
 use Rattle.ahci_hba.specs.Moving.{answering, blocking, ending_of_data}
 use Rattle.ahci_hba.specs.Queueing.{fis_put}
@@ -64,41 +64,41 @@ abbrev pub setup_put : HbaState → (d i : Bool) → (e_status sectors : ℕ) �
 setup_put s d i e_status n = received_put s 0x20 (pio_setup_bytes (setup_fis d i e_status n))
 
 -- a queued command: a DMA Setup FIS, the data of a read, and a Set Device Bits FIS. So many bytes have moved, to the driver or from it
-abbrev pub queued_posting : HbaState → PortView → List Put → PostingView
-queued_posting s port content =
+abbrev pub queued_writes : HbaState → PortView → List Put → DmaWritesView
+queued_writes s port content =
     record { before = fis_put s port 0x00 28; content = content; count = []; after = fis_put s port 0x58 8 }
 
 abbrev pub queued_answer : HbaView → ℕ → List PrdEntry → List ℕ → (whole : Bool) → ℕ → HbaView
 queued_answer h slot list bytes whole n =
-    answering h (queued_posting h.registers h.port (placed list bytes)) (ending_of_data whole (has_processed list n) (last_fis.Bits 0x40 0 (2 ^ slot)))
+    answering h (queued_writes h.registers h.port (placed list bytes)) (ending_of_data whole (has_processed list n) (last_fis.Bits 0x40 0 (2 ^ slot)))
 
 -- a read by DMA: the data, PRDBC, and a D2H Register FIS
-abbrev pub read_posting : HbaState → ℕ → List Put → ℕ → D2hFields → PostingView
-read_posting s slot content moved fis =
+abbrev pub read_writes : HbaState → ℕ → List Put → ℕ → D2hFields → DmaWritesView
+read_writes s slot content moved fis =
     record { before = []; content = content; count = count_put s slot moved; after = received_put s 0x40 (d2h_bytes fis) }
 
 abbrev pub read_answer : HbaView → ℕ → List PrdEntry → List ℕ → ℕ → D2hFields → HbaView
 read_answer h slot list bytes n fis =
-    answering h (read_posting h.registers slot (placed list bytes) (moved_to n list) fis)
+    answering h (read_writes h.registers slot (placed list bytes) (moved_to n list) fis)
     (ending_of_data (fits n list) (has_processed list n) (fis_ending slot fis))
 
 -- the end of a command whose data have moved, with the last byte of an entry with I or not: PRDBC, and a D2H Register FIS
 abbrev pub closing : HbaView → ℕ → ℕ → (processed : Bool) → D2hFields → HbaView
-closing h slot n processed fis = answering h (read_posting h.registers slot [] n fis) (ending_of_data true processed (fis_ending slot fis))
+closing h slot n processed fis = answering h (read_writes h.registers slot [] n fis) (ending_of_data true processed (fis_ending slot fis))
 
 -- a page by PIO: a PIO Setup FIS, the page, and PRDBC
-abbrev pub page_posting : HbaState → ℕ → List Put → ℕ → PostingView
-page_posting s slot content moved = record { before = setup_put s true true 0x40 1; content = content; count = count_put s slot moved; after = [] }
+abbrev pub page_writes : HbaState → ℕ → List Put → ℕ → DmaWritesView
+page_writes s slot content moved = record { before = setup_put s true true 0x40 1; content = content; count = count_put s slot moved; after = [] }
 
 abbrev pub page_answer : HbaView → ℕ → List PrdEntry → List ℕ → HbaView
 page_answer h slot list page =
-    answering h (page_posting h.registers slot (placed list page) (moved_to 512 list))
+    answering h (page_writes h.registers slot (placed list page) (moved_to 512 list))
     (ending_of_data (fits 512 list) (has_processed list 512) (last_fis.Pio slot))
 
 -- a transfer by PIO begins, of so many sectors in blocks of at most so many
 abbrev pub beginning : HbaView → ℕ → Bool → (n most : ℕ) → BlocksView → Option D2hFields → HbaView
 beginning h slot write n most rest finish =
-    record h { work = Pio (first_block slot write n most rest finish) }
+    record h { dma = Pio (first_block slot write n most rest finish) }
 
 -- the same for a command that moves its data so: of READ and WRITE MULTIPLE a block has what SET MULTIPLE MODE has set
 abbrev pub beginning_by : HbaView → ℕ → Protocol → Bool → ℕ → BlocksView → Option D2hFields → HbaView
@@ -108,7 +108,7 @@ beginning_by h slot p write n rest finish = beginning h slot write n (block_sect
 abbrev pub bytes_for : Task → WindowState → List ℕ
 bytes_for t w = if is_write t then [] else text w
 
-abbrev pub delivered : WorkView → List ℕ
+abbrev pub delivered : DmaView → List ℕ
 delivered (Served slot t w list) = bytes_for t w
 delivered other = []
 
@@ -139,15 +139,15 @@ answer_with h slot list bytes (action.Control reset) = closing h slot 0 false do
 answer_with h slot list bytes action.Abort = closing h slot 0 false done
 
 -- a block of a write, of so many sectors, which the transfer has behind it then
-abbrev pub only_before : List Put → PostingView
+abbrev pub only_before : List Put → DmaWritesView
 only_before puts = record { before = puts; content = []; count = []; after = [] }
 
 abbrev pub block_out : HbaView → (sectors : ℕ) → TransferView → HbaView
 block_out h n t = blocking h (only_before (setup_put h.registers false (has_interrupt t) 0xC0 n)) t
 
 -- a block to the driver: a PIO Setup FIS, the block, and PRDBC with the bytes so far
-abbrev pub block_posting : HbaState → TransferView → ℕ → PostingView
-block_posting s t e_status =
+abbrev pub block_writes : HbaState → TransferView → ℕ → DmaWritesView
+block_writes s t e_status =
     record {
       before = setup_put s true true e_status (next_sectors t);
       content = block_puts t.rest (next_sectors t);
@@ -158,12 +158,12 @@ block_posting s t e_status =
 abbrev pub block_in : HbaView → TransferView → HbaView
 block_in h t =
     if is_last t then
-    answering h (block_posting h.registers t 0x40) (ending_of_data (fits (512 * next_sectors t) (next_list t)) (next_processes t) (last_fis.Pio t.slot))
-    else blocking h (block_posting h.registers t 0xC0) (next_block t)
+    answering h (block_writes h.registers t 0x40) (ending_of_data (fits (512 * next_sectors t) (next_list t)) (next_processes t) (last_fis.Pio t.slot))
+    else blocking h (block_writes h.registers t 0xC0) (next_block t)
 
 -- all blocks have moved, and each has set DPS if it had to; a log of the host's is written now
 abbrev pub finishing : HbaView → TransferView → Option D2hFields → HbaView
-finishing h t None = record h { work = Idle }
+finishing h t None = record h { dma = Idle }
 finishing h t (Some fis) = closing (logging h (logs_behind t.logs h.logs)) t.slot t.moved false fis
 
 -- the next step of a transfer
@@ -177,31 +177,31 @@ going_on h t =
 abbrev pub block_content : TransferView → List Put
 block_content t = if sends_block t then block_puts t.rest (next_sectors t) else []
 
-abbrev pub content_of : WorkView → List Put
+abbrev pub content_of : DmaView → List Put
 content_of (Pio t) = block_content t
 content_of other = []
 
 -- data of a read go to the driver next, for which memory is allocated
-abbrev pub sends_data : WorkView → Bool
+abbrev pub sends_data : DmaView → Bool
 sends_data (Served slot t w list) = not (is_write t)
 sends_data (Pio t) = sends_block t
 sends_data other = false
 
 -- the answer to the command that the port has done; of a transfer by PIO the next block, while FRE is 1
-abbrev pub served_answer : HbaView → WorkView → HbaView
+abbrev pub served_answer : HbaView → DmaView → HbaView
 served_answer h (Served slot t w list) = answer_with h slot list (bytes_for t w) (action_of t)
 served_answer h other = h
 
-abbrev pub stepped_on : HbaView → WorkView → HbaView
+abbrev pub stepped_on : HbaView → DmaView → HbaView
 stepped_on h (Pio t) = going_on h t
 stepped_on h other = h
 
-abbrev pub gone_on : HbaView → WorkView → HbaView
+abbrev pub gone_on : HbaView → DmaView → HbaView
 gone_on h w = if h.registers.port.fre then stepped_on h w else h
 
-abbrev pub is_pio : WorkView → Bool
+abbrev pub is_pio : DmaView → Bool
 is_pio (Pio t) = true
 is_pio other = false
 
-abbrev pub answered : HbaView → WorkView → HbaView
+abbrev pub answered : HbaView → DmaView → HbaView
 answered h w = if is_pio w then gone_on h w else served_answer h w

@@ -1,7 +1,7 @@
 -- What a write of the driver drops (AHCI 1.3.1, sections 3.3.7, 10.4.2 and 10.4.3).
 use Rattle.std.specs.Prelude.{Bool, false, not, ◌&&◌, ◌||◌, Option, None, Some, nat_lt, replicate, if◌then◌else◌}
 use Rattle.std.specs.List.{list_any}
-use Rattle.hba_memory.specs.Posting.{without_fises}
+use Rattle.hba_memory.specs.DmaWrites.{without_fises}
 use Rattle.hba_regs.specs.HbaState.{HbaState}
 use Rattle.hba_regs.specs.Writing.{Written}
 use Rattle.hba_regs.specs.declared.consequence.Consequence.{Consequence}
@@ -10,7 +10,7 @@ use Rattle.ncq_journal.specs.Halted.{halted}
 use Rattle.ncq_journal.specs.History.{History}
 use Rattle.ahci_port.specs.Faults.{most_first}
 use Rattle.ahci_port.specs.PortView.{PortView, journal_in, next_number, port_over}
-use Rattle.ahci_hba.specs.HbaView.{HbaView, WorkView, Idle, Block, Posting}
+use Rattle.ahci_hba.specs.HbaView.{HbaView, DmaView, Idle, Block, Writing}
 use Rattle.ahci_hba.specs.Keeping.{device_after}
 use Rattle.ahci_hba.specs.Powering.{power_after}
 use Rattle.ahci_hba.specs.Queueing.{is_sent}
@@ -40,16 +40,16 @@ handed_out reset port = if reset then Some (journal_in port) else None
 
 -- no command is left, and nothing is read or written any more
 abbrev pub emptied : HbaView → HbaView
-emptied h = record h { slots = replicate 32 None; work = Idle }
+emptied h = record h { slots = replicate 32 None; dma = Idle }
 
 -- while FRE is 0, no FIS is written
-abbrev pub without_receiving : HbaView → WorkView → HbaView
+abbrev pub without_receiving : HbaView → DmaView → HbaView
 without_receiving h (Block p t) = blocking h (without_fises p) t
-without_receiving h (Posting p e) = answering h (without_fises p) e
+without_receiving h (Writing p e) = answering h (without_fises p) e
 without_receiving h other = h
 
 abbrev pub settled_work : HbaView → HbaView
-settled_work h = if h.registers.port.fre then h else without_receiving h h.work
+settled_work h = if h.registers.port.fre then h else without_receiving h h.dma
 
 -- the controller after a write with a consequence
 abbrev pub after_write : Consequence → HbaView → HbaState → HbaView

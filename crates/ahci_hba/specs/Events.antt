@@ -61,11 +61,11 @@ device_plugged h = with_port h (plugged h.registers.port)
 abbrev pub failed_at_interface : HbaView → InterfaceError → (is_fatal : Bool) → HbaView
 failed_at_interface h error is_fatal =
     let next = with_port h (interface_failed error is_fatal h.registers.port) in
-    if is_fatal && is_up h.registers.port.link then record next { work = Idle } else next
+    if is_fatal && is_up h.registers.port.link then record next { dma = Idle } else next
 
 -- a FIS that no command asks for can be received: the port accepts it, and nothing is read or written just now
 abbrev pub may_receive : HbaView → Bool
-may_receive h = is_idle h.work && accepts_fis h.registers.port
+may_receive h = is_idle h.dma && accepts_fis h.registers.port
 
 -- a D2H Register FIS, only if the device isn't busy with a command (BSY and DRQ are 0)
 abbrev pub may_receive_register : HbaView → Bool

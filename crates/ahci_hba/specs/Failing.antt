@@ -15,7 +15,7 @@ use Rattle.hba_command.specs.declared.addressing.Addressing.{Addressing}
 use Rattle.hba_command.specs.declared.entry.PrdEntry.{PrdEntry}
 use Rattle.hba_command.specs.declared.protocol.Protocol.{Protocol}
 use Rattle.hba_command.specs.declared.protocol.Protocol.TheVariants.{Dma}
-use Rattle.hba_memory.specs.Posting.{PostingView}
+use Rattle.hba_memory.specs.DmaWrites.{DmaWritesView}
 use Rattle.hba_memory.specs.Processing.{has_processed}
 use Rattle.hba_memory.specs.Runs.{placed}
 use Rattle.hba_regs.specs.HbaState.{HbaState}
@@ -129,8 +129,8 @@ abbrev pub moved_sectors : PortView → QueuedFields → ℕ → ℕ
 moved_sectors port q lba = if q.write then 0 else sectors_before port q.lba q.sectors lba
 
 -- the answer to a queued command that fails: the sectors before the LBA after a DMA Setup FIS, whose tag is the slot, and a Set Device Bits FIS with ERR
-abbrev pub failed_posting : HbaState → PortView → (slot : ℕ) → QueuedFields → List PrdEntry → List ℕ → ℕ → PostingView
-failed_posting s port slot q list bytes n =
+abbrev pub failed_writes : HbaState → PortView → (slot : ℕ) → QueuedFields → List PrdEntry → List ℕ → ℕ → DmaWritesView
+failed_writes s port slot q list bytes n =
     if nat_eq n 0 then only_after (fis_put s port 0x58 8)
     else record {
       before = received_put s 0x00 (setup_bytes (record q { tag = slot }));
@@ -141,7 +141,7 @@ failed_posting s port slot q list bytes n =
 
 abbrev pub failure_answered : HbaView → PortView → (slot : ℕ) → QueuedFields → List PrdEntry → List ℕ → ℕ → ℕ → HbaView
 failure_answered h port slot q list bytes n error =
-    answering (record h { port = port }) (failed_posting h.registers port slot q list bytes n)
+    answering (record h { port = port }) (failed_writes h.registers port slot q list bytes n)
     (ending_of_data (nat_eq n 0 || fits (512 * n) list) (has_processed list (512 * n)) (Bits 0x41 error 0))
 
 -- and ICRC is counted

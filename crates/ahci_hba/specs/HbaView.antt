@@ -5,7 +5,7 @@ use Rattle.hba_command.specs.declared.entry.PrdEntry.{PrdEntry}
 use Rattle.hba_command.specs.declared.host_page.HostPage.{HostPage}
 use Rattle.hba_command.specs.declared.power.Power.{Power}
 use Rattle.hba_command.specs.declared.task.Task.{Task}
-use Rattle.hba_memory.specs.Posting.{PostingView}
+use Rattle.hba_memory.specs.DmaWrites.{DmaWritesView}
 use Rattle.hba_memory.specs.Reading.{ReadingView}
 use Rattle.hba_regs.specs.HbaState.{HbaState}
 use Rattle.ahci_table.specs.Window.{WindowState}
@@ -14,8 +14,8 @@ use Rattle.ahci_hba.specs.declared.command.Command.{Command}
 use Rattle.ahci_hba.specs.declared.command.Command.TheVariants as command
 use Rattle.ahci_hba.specs.declared.ending.Ending.{Ending}
 use Rattle.ahci_hba.specs.Transfer.{TransferView}
-use Rattle.ahci_hba.specs.declared.work.Work.{Work}
-use Rattle.ahci_hba.specs.declared.work.Work.TheVariants as work
+use Rattle.ahci_hba.specs.declared.dma_state.DmaState.{DmaState}
+use Rattle.ahci_hba.specs.declared.dma_state.DmaState.TheVariants as state
 
 -- a command that was read from a slot of the command list
 pub data CommandView : Type 0 where
@@ -27,21 +27,21 @@ command_of (command.Fetched t list bytes) = Fetched t list.items bytes.items
 command_of (command.Sent t list) = Sent t list.items
 
 -- what the controller does with the driver's memory
-pub data WorkView : Type 0 where
-  Idle : WorkView
-  Fetching : (slot : ℕ) → ReadingView → WorkView
-  Served : (slot : ℕ) → Task → WindowState → List PrdEntry → WorkView
-  Pio : TransferView → WorkView
-  Block : PostingView → TransferView → WorkView
-  Posting : PostingView → Ending → WorkView
+pub data DmaView : Type 0 where
+  Idle : DmaView
+  Fetching : (slot : ℕ) → ReadingView → DmaView
+  Served : (slot : ℕ) → Task → WindowState → List PrdEntry → DmaView
+  Pio : TransferView → DmaView
+  Block : DmaWritesView → TransferView → DmaView
+  Writing : DmaWritesView → Ending → DmaView
 
-abbrev pub work_of : {A : _} → Work A → WorkView
-work_of work.Idle = Idle
-work_of (work.Fetching slot fetch) = Fetching slot fetch
-work_of (work.Served slot t window list) = Served slot t window list.items
-work_of (work.Pio transfer) = Pio transfer
-work_of (work.Block posting transfer) = Block posting transfer
-work_of (work.Posting posting ending) = Posting posting ending
+abbrev pub dma_of : {A : _} → Work A → DmaView
+dma_of state.Idle = Idle
+dma_of (state.Fetching slot fetch) = Fetching slot fetch
+dma_of (state.Served slot t window list) = Served slot t window list.items
+dma_of (state.Pio transfer) = Pio transfer
+dma_of (state.Block writes transfer) = Block writes transfer
+dma_of (state.Writing writes ending) = Writing writes ending
 
 pub record HbaView : Type 0 where
   -- the registers, as a driver reads them
@@ -61,4 +61,4 @@ pub record HbaView : Type 0 where
   -- by slot, the commands that were read and are not done
   pub slots : List (Option CommandView)
   -- what is read or written just now
-  pub work : WorkView
+  pub dma : DmaView

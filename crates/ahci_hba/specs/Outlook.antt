@@ -3,7 +3,7 @@ use Rattle.std.specs.Prelude.{◌≡◌, ◌<◌, ℕ, Bool, true, false, min, n
 use Rattle.std.specs.List.{list_any, range_with_len}
 use Rattle.ncq_journal.specs.declared.phase.Phase.{Phase}
 use Rattle.ncq_journal.specs.declared.phase.Phase.TheVariants.{Accepted, Issued}
-use Rattle.ahci_hba.specs.HbaView.{HbaView, WorkView, Pio, Served}
+use Rattle.ahci_hba.specs.HbaView.{HbaView, DmaView, Pio, Served}
 use Rattle.ahci_hba.specs.Queueing.{distance_of, has_queued, is_before, is_listening, is_ready, may_fetch, waits}
 use Rattle.ahci_hba.specs.declared.outlook.Outlook.{Outlook}
 use Rattle.ahci_hba.specs.declared.step.Step.{Step}
@@ -40,7 +40,7 @@ pub record IsOutlook (h : HbaView) (o : Outlook) : Type 0 where
   pub reach : Reaches h o.reach
 
 -- the slot that the port has done a command for, or whose transfer by PIO goes on
-abbrev pub delivering : WorkView → Option ℕ
+abbrev pub delivering : DmaView → Option ℕ
 delivering (Served slot t window list) = Some slot
 delivering (Pio t) = Some t.slot
 delivering other = None

@@ -11,7 +11,7 @@ use Rattle.hba_command.specs.declared.action.Action.TheVariants.{Queue, Sectors,
 use Rattle.hba_command.specs.declared.entry.PrdEntry.{PrdEntry}
 use Rattle.hba_command.specs.declared.task.Task.{Task}
 use Rattle.hba_command.specs.declared.task.Task.TheVariants.{Unknown}
-use Rattle.hba_memory.specs.Posting.{PostingView}
+use Rattle.hba_memory.specs.DmaWrites.{DmaWritesView}
 use Rattle.hba_memory.specs.Reading.{Header}
 use Rattle.hba_memory.specs.Runs.{Put}
 use Rattle.hba_memory.specs.Table.{wrapped}
@@ -32,7 +32,7 @@ use Rattle.ahci_port.specs.Slots.{bytes_in}
 use Rattle.ahci_port.specs.declared.step.DeviceStep.TheVariants as step
 use Rattle.ahci_port.specs.declared.step.Stepped.{Stepped}
 use Rattle.ahci_port.specs.declared.step.Stepped.TheVariants as stepped
-use Rattle.ahci_hba.specs.HbaView.{CommandView, Fetched, Sent, HbaView, WorkView, Idle, Fetching, Served}
+use Rattle.ahci_hba.specs.HbaView.{CommandView, Fetched, Sent, HbaView, DmaView, Idle, Fetching, Served}
 use Rattle.ahci_hba.specs.Marking.{marked_for, marks_after}
 use Rattle.ahci_hba.specs.Moving.{answering, ending_of}
 use Rattle.ahci_hba.specs.Powering.{awake}
@@ -43,7 +43,7 @@ use Rattle.ahci_hba.specs.declared.last_fis.LastFis.TheVariants as last_fis
 abbrev pub command_at : HbaView → ℕ → Option CommandView
 command_at h slot = slice_index_or h.slots slot None
 
-abbrev pub is_idle : WorkView → Bool
+abbrev pub is_idle : DmaView → Bool
 is_idle Idle = true
 is_idle other = false
 
@@ -140,7 +140,7 @@ is_running p = p.st && not p.halted && is_up p.link
 
 -- the controller may take a step with the command list: it is processed, and nothing is read or written just now
 abbrev pub is_listening : HbaView → Bool
-is_listening h = is_running h.registers.port && is_idle h.work
+is_listening h = is_running h.registers.port && is_idle h.dma
 
 -- there is no software reset
 abbrev pub is_off : SoftReset → Bool
@@ -187,7 +187,7 @@ abbrev pub fetching : HbaView → ℕ → HbaView
 fetching h slot =
     record h {
       registers = moved h.registers (p_select_cmd slot h.registers.port);
-      work = Fetching slot (Header (wrapped (h.registers.port.clb + 32 * slot)));
+      dma = Fetching slot (Header (wrapped (h.registers.port.clb + 32 * slot)));
     }
 
 -- what a command asks of the disk; a write has these bytes
@@ -222,7 +222,7 @@ fis_put s port place n =
     if s.port.fre then (record { address = wrapped (s.port.fb + place); bytes = fis_at port place n }) ∷ [] else []
 
 -- an answer of one FIS alone
-abbrev pub only_after : List Put → PostingView
+abbrev pub only_after : List Put → DmaWritesView
 only_after puts = record { before = []; content = []; count = []; after = puts }
 
 -- the command of a slot is sent to the port: its request is in the journal
@@ -267,7 +267,7 @@ abbrev pub handed_over : HbaView → ℕ → WindowState → HbaView
 handed_over h slot window =
     record h {
       slots = slice_set h.slots slot None;
-      work = Served slot (task_in (command_at h slot)) window (list_in (command_at h slot));
+      dma = Served slot (task_in (command_at h slot)) window (list_in (command_at h slot));
       marks = marks_after (action_of (task_in (command_at h slot))) h.marks;
     }
 
@@ -283,4 +283,4 @@ pub record IsServed (slot : ℕ) (t : Task) (list : List PrdEntry) (old new : Hb
   pub number : ℕ
   pub owner : owner_of old.port slot ≡ Some number
   pub answered : IsSomeAnd (answer_to middle number) (λ a. a.bytes ≡ bytes_in a.outcome window)
-  pub served : new ≡ record old { port = port; slots = slice_set old.slots slot None; work = Served slot t window list; marks = marks_after (action_of t) old.marks }
+  pub served : new ≡ record old { port = port; slots = slice_set old.slots slot None; dma = Served slot t window list; marks = marks_after (action_of t) old.marks }

@@ -37,7 +37,7 @@ sent_by other kind = kind
 
 -- its FIS can be taken, or posted
 abbrev pub may_sign : HbaView → Bool
-may_sign h = is_idle h.work && signature_moves h.registers.port h.registers.port.signature
+may_sign h = is_idle h.dma && signature_moves h.registers.port h.registers.port.signature
 
 -- it is taken, and posted if FRE is 1, from a device of some kind
 abbrev pub signing_for : HbaView → DeviceKind → HbaView

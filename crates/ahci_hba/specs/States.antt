@@ -6,9 +6,9 @@ use Rattle.hba_regs.specs.CapFields.{CapFields, usual}
 use Rattle.hba_regs.specs.HbaState.{power_on}
 use Rattle.ahci_port.specs.PortView.{PortView, port_over}
 use Rattle.ahci_table.specs.Fit.{IsFit}
-use Rattle.hba_memory.specs.Posting.{is_none, remaining}
+use Rattle.hba_memory.specs.DmaWrites.{is_none, remaining}
 use Rattle.hba_memory.specs.Reading.{is_over}
-use Rattle.ahci_hba.specs.HbaView.{CommandView, HbaView, WorkView, Idle, Fetching, Served, Pio, Block, Posting}
+use Rattle.ahci_hba.specs.HbaView.{CommandView, HbaView, DmaView, Idle, Fetching, Served, Pio, Block, Writing}
 
 -- a controller after power-on that can do this, in front of a disk over a store with this image
 abbrev pub hba_over : (grows : Bool) → List ℕ → ℕ → CapFields → HbaView
@@ -21,7 +21,7 @@ hba_over grows image depth c = record {
   marks = [];
   logs = [];
   slots = replicate 32 None;
-  work = Idle;
+  dma = Idle;
 }
 
 -- the same of a disk with this image in memory
@@ -34,18 +34,18 @@ new_hba image depth = hba_with image depth usual
 
 -- of a command that is read more comes; the window of a command that the port has done is fit; of an answer or a
 -- block something is still to be written
-abbrev pub IsSoundWork : WorkView → Type 0
-IsSoundWork Idle = Unit {0}
-IsSoundWork (Fetching slot r) = is_over r ≡ false
-IsSoundWork (Served slot t window list) = IsFit window
-IsSoundWork (Pio t) = Unit {0}
-IsSoundWork (Block p t) = is_none (remaining p) ≡ false
-IsSoundWork (Posting p e) = is_none (remaining p) ≡ false
+abbrev pub IsSoundDma : DmaView → Type 0
+IsSoundDma Idle = Unit {0}
+IsSoundDma (Fetching slot r) = is_over r ≡ false
+IsSoundDma (Served slot t window list) = IsFit window
+IsSoundDma (Pio t) = Unit {0}
+IsSoundDma (Block p t) = is_none (remaining p) ≡ false
+IsSoundDma (Writing p e) = is_none (remaining p) ≡ false
 
 -- what every state keeps: 32 slots, whatever the depth
-pub record IsSound (port : PortView) (depth : ℕ) (slots : List (Option CommandView)) (work : WorkView) : Type 0 where
+pub record IsSound (port : PortView) (depth : ℕ) (slots : List (Option CommandView)) (dma : DmaView) : Type 0 where
   pub tags : port.depth ≡ 32
   pub whole : length slots ≡ 32
   pub some : 1 ≤ depth
   pub most : depth ≤ 32
-  pub moving : IsSoundWork work
+  pub moving : IsSoundDma dma

@@ -17,7 +17,7 @@ use Rattle.ahci_hba.specs.Delivering.{answered, sends_data}
 use Rattle.ahci_hba.specs.Executing.{IsExecuted, MayLackAt, is_aborted, is_alone_fetched}
 use Rattle.sata_fis.specs.Fields.{QueuedFields}
 use Rattle.ahci_hba.specs.Failing.{Fails, fails_at, own_in}
-use Rattle.ahci_hba.specs.HbaView.{CommandView, Fetched, HbaView, WorkView, Served, Pio}
+use Rattle.ahci_hba.specs.HbaView.{CommandView, Fetched, HbaView, DmaView, Served, Pio}
 use Rattle.ahci_hba.specs.Marking.{marked_for}
 use Rattle.ahci_hba.specs.Queueing.{IsAccepted, IsServed, Sends, asked_for, command_at, fetching, goes_to_port, has_alone, has_queued, has_tag, is_failed, is_listening, is_on, is_ready, is_running, is_sent, list_in, may_fetch, task_in}
 use Rattle.ahci_hba.specs.Recovering.{ReadsErrorLog, error_log_in}
@@ -125,13 +125,13 @@ may_refuse h slot = is_ready h && is_alone_fetched (command_at h slot)
 
 -- the port has done the command of this slot, and its answer is to be put together; of a transfer by PIO the next block. Its FISes are accepted
 -- in P:Idle while FRE is 1
-abbrev pub delivers_for : WorkView → ℕ → Bool
+abbrev pub delivers_for : DmaView → ℕ → Bool
 delivers_for (Served s t window list) slot = nat_eq s slot
 delivers_for (Pio t) slot = nat_eq t.slot slot
 delivers_for other slot = false
 
 abbrev pub may_deliver : HbaView → ℕ → Bool
-may_deliver h slot = is_running h.registers.port && (h.registers.port.fre && delivers_for h.work slot)
+may_deliver h slot = is_running h.registers.port && (h.registers.port.fre && delivers_for h.dma slot)
 
 abbrev pub delivery : HbaView → ℕ → Option Step
 delivery h slot = if may_deliver h slot then Some step.Deliver else None
@@ -173,7 +173,7 @@ IsTaken step.Fetch slot old new journal = (new ≡ fetching old slot) × (journa
 IsTaken step.Send slot old new journal = Sends slot (command_at old slot) old new × (journal ≡ None)
 IsTaken step.Accept slot old new journal = IsAccepted slot (has_alone (command_at old slot)) old new × (journal ≡ None)
 IsTaken step.Serve slot old new journal = Serves slot old new × (journal ≡ None)
-IsTaken step.Deliver slot old new journal = (new ≡ answered old old.work) × (journal ≡ None)
+IsTaken step.Deliver slot old new journal = (new ≡ answered old old.dma) × (journal ≡ None)
 IsTaken step.Execute slot old new journal = IsExecuted slot old new × (journal ≡ None)
 IsTaken step.Control slot old new journal = IsControlled slot old new × (journal ≡ control_journal old (control_in (command_at old slot)))
 IsTaken step.Recover slot old new journal = ReadsErrorLog slot old new journal
@@ -184,7 +184,7 @@ StepMayLack step.Fetch slot h = ⊥
 StepMayLack step.Send slot h = Unit {0}
 StepMayLack step.Accept slot h = ⊥
 StepMayLack step.Serve slot h = is_some (marked_at h slot) ≡ true
-StepMayLack step.Deliver slot h = sends_data h.work ≡ true
+StepMayLack step.Deliver slot h = sends_data h.dma ≡ true
 StepMayLack step.Execute slot h = MayLackAt slot h
 StepMayLack step.Control slot h = ⊥
 StepMayLack step.Recover slot h = Unit {0}

@@ -46,7 +46,7 @@ kept_at_once h slot s p list bytes = taken_by (keeping (vacated h slot) (after_s
 -- written no page
 abbrev pub log_taken_by : HbaView → ℕ → Protocol → List PrdEntry → (blocks : ℕ) → (logs : List HostPage) → HbaView
 log_taken_by h slot Dma list n logs = closing (logging h logs) slot (512 * n) (has_processed list (512 * n)) done
-log_taken_by h slot p list n logs = record h { work = Pio (writing_log (first_block slot true n 1 (record { list = list; bytes = [] }) (Some done)) logs) }
+log_taken_by h slot p list n logs = record h { dma = Pio (writing_log (first_block slot true n 1 (record { list = list; bytes = [] }) (Some done)) logs) }
 
 -- a log of the host's is written, or the command is aborted
 abbrev pub log_stored : HbaView → ℕ → HostPagesFields → Protocol → List PrdEntry → List ℕ → HbaView

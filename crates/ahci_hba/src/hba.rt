@@ -32,7 +32,7 @@ ghost use Rattle.ahci_port.specs.{Faults.{AnswersOr}, Headline.{Headline}, PortV
 ghost use Rattle.ahci_hba.specs.States.{hba_over, hba_with, new_hba};
 
 use crate::command::Listed;
-use crate::work::Work;
+use crate::dma_state::DmaState;
 use ahci_port::{DiskFault, Port};
 use hba_command::{Device, HostLogs, Power, Uncorrectable};
 use hba_regs::{AccessSize, Capabilities, HbaRegs};
@@ -55,19 +55,19 @@ pub struct Hba<A: Allocator = Global, S: SectorStore = Whole<A>> {
     uncorrectable: Uncorrectable,
     logs: HostLogs<A>,
     slots: Vec<Option<Listed<A>>, A>,
-    work: Work<A>,
+    dma: DmaState<A>,
 }
 
 impl<A: Allocator, S: SectorStore> Model for Hba<A, S> {
     ghost use Rattle.std.specs.Prelude.{◌≡◌, ◌≤◌, length};
-    ghost use Rattle.ahci_hba.specs.HbaView.{HbaView, work_of};
+    ghost use Rattle.ahci_hba.specs.HbaView.{HbaView, dma_of};
     ghost use Rattle.ahci_hba.specs.States.{IsSound};
 
     ghost Value = { HbaView };
 
-    ghost view = { λ h. record { registers = h.registers; port = h.port; depth = h.depth; power = h.power; device = h.device; marks = h.uncorrectable; logs = h.logs; slots = h.slots.items; work = work_of h.work } };
+    ghost view = { λ h. record { registers = h.registers; port = h.port; depth = h.depth; power = h.power; device = h.device; marks = h.uncorrectable; logs = h.logs; slots = h.slots.items; dma = dma_of h.dma } };
 
-    ghost invariant = { λ h. IsSound h.port h.depth h.slots.items (work_of h.work) };
+    ghost invariant = { λ h. IsSound h.port h.depth h.slots.items (dma_of h.dma) };
 }
 
 /// The port of a disk with this image, which has a tag for each slot, whatever queue depth is reported.
@@ -192,7 +192,7 @@ impl<A: Allocator + Copy, S: SectorStore + Drop> Hba<A, S> {
             uncorrectable: Uncorrectable::new(),
             logs: HostLogs::new(alloc),
             slots,
-            work: Work::Idle,
+            dma: DmaState::Idle,
         })
     }
 }

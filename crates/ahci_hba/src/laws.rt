@@ -38,7 +38,7 @@ pub fn no_command_is_stranded<A: Allocator, S: SectorStore>(hba: &Hba<A, S>)
 /// A device in Sleep answers no command: while nothing is written, a command is read at most, and a control FIS is taken (ACS-3, "SLEEP").
 pub fn a_device_in_sleep_answers_no_command<A: Allocator, S: SectorStore>(hba: &Hba<A, S>)
     requires { hba.now.power ≡ Sleep }
-    ensures { is_idle hba.now.work ≡ true → (slot : ℕ) → answers (next_step hba.now slot) ≡ false }
+    ensures { is_idle hba.now.dma ≡ true → (slot : ℕ) → answers (next_step hba.now slot) ≡ false }
 {}
 
 /// In ERR:WaitForClear no slot has a step (section 5.3, "Error Recovery").
@@ -92,10 +92,10 @@ pub fn a_step_takes_transitions<A: Allocator, S: SectorStore>(
 
 /// The same while it reads and writes the driver's memory.
 pub fn a_move_takes_transitions<A: Allocator, S: SectorStore>(hba: &Hba<A, S>)
-    ensures read { (bytes : List ℕ) → Takes hba.now.registers (supplied hba.now hba.now.work bytes).registers }
-    ensures written { Takes hba.now.registers (put_done hba.now hba.now.work).registers }
-    ensures unmapped { Takes hba.now.registers (unmapped hba.now hba.now.work).registers }
-    ensures spoiled { Takes hba.now.registers (spoiled hba.now hba.now.work).registers }
+    ensures read { (bytes : List ℕ) → Takes hba.now.registers (supplied hba.now hba.now.dma bytes).registers }
+    ensures written { Takes hba.now.registers (put_done hba.now hba.now.dma).registers }
+    ensures unmapped { Takes hba.now.registers (unmapped hba.now hba.now.dma).registers }
+    ensures spoiled { Takes hba.now.registers (spoiled hba.now hba.now.dma).registers }
     ensures signed { (kind : DeviceKind) → Takes hba.now.registers (signing hba.now kind).registers }
 {}
 

@@ -6,6 +6,7 @@
 #![tactic(auto)]
 
 mod command;
+mod dma_state;
 mod ending;
 mod fault;
 mod hba;
@@ -15,7 +16,6 @@ mod outlook;
 mod step;
 mod transfer;
 mod want;
-mod work;
 
 pub use command::Command;
 pub use ending::Ending;

@@ -2,6 +2,7 @@
 #![tactic(auto)]
 
 mod answer;
+mod answer_writer;
 mod issue;
 mod lines;
 mod refused;
@@ -9,14 +10,13 @@ mod run;
 mod script;
 mod script_fault;
 mod session;
-mod teller;
 mod unanswered;
 mod whole_script;
 mod window;
 
+pub use answer_writer::{AnswerWriter, AnswersAlone};
 pub use script_fault::ScriptFault;
 pub use session::Session;
-pub use teller::{AnswersAlone, Teller};
 pub use unanswered::Unanswered;
 pub use whole_script::{replay, replay_with};
 pub use window::read_window;

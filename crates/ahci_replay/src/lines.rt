@@ -5,18 +5,18 @@ ghost use Rattle.ahci_script.specs.Lines.{HasSmallTag};
 ghost use Rattle.ahci_replay.specs.Commands.{is_in_place};
 ghost use Rattle.ahci_replay.specs.Transcript.{Grown, HasRun, IsCommandFault, IsLineFault, placed};
 
+use crate::answer_writer::AnswerWriter;
 use crate::script_fault::ScriptFault;
 use crate::session::Session;
-use crate::teller::Teller;
 use crate::unanswered::Unanswered;
 use ahci_script::{Line, Output, ScriptCommand, read_line};
 use std::alloc::Allocator;
 
 /// Answers a line of the given number.
-pub(crate) fn answer_line<T: Teller<A>, A: Allocator + Copy>(
+pub(crate) fn answer_line<T: AnswerWriter<A>, A: Allocator + Copy>(
     session: &mut Session<A>,
     output: &mut Output<A>,
-    teller: &T,
+    writer: &T,
     number: u64,
     line: &[u8],
 ) -> Result<(), ScriptFault>
@@ -28,15 +28,15 @@ pub(crate) fn answer_line<T: Teller<A>, A: Allocator + Copy>(
     match read_line(line) {
         Err(_) => Err(ScriptFault::Line(number)),
         Ok(Line::Skip) => Ok(()),
-        Ok(Line::Run(command)) => { answer_command(session, output, teller, number, line, command) }
+        Ok(Line::Run(command)) => { answer_command(session, output, writer, number, line, command) }
     }
 }
 
 /// Runs the command of a line of the given number, and has its answer written into the output.
-fn answer_command<T: Teller<A>, A: Allocator + Copy>(
+fn answer_command<T: AnswerWriter<A>, A: Allocator + Copy>(
     session: &mut Session<A>,
     output: &mut Output<A>,
-    teller: &T,
+    writer: &T,
     number: u64,
     line: &[u8],
     command: ScriptCommand<'_>,
@@ -48,9 +48,9 @@ fn answer_command<T: Teller<A>, A: Allocator + Copy>(
     ensures fault { IfErr result (IsCommandFault session.old command.entry number) }
     ensures wrong { is_in_place session.old command.entry ≡ false → result ≡ Err (ScriptFault.Line number) }
 {
-    let before = teller.look(session.port());
+    let before = writer.look(session.port());
     match session.run(command) {
-        Ok(answer) => Ok(teller.tell(number, line, before, &answer, session.port(), output)?),
+        Ok(answer) => Ok(writer.tell(number, line, before, &answer, session.port(), output)?),
         Err(Unanswered::OutOfPlace) => Err(ScriptFault::Line(number)),
         Err(Unanswered::OutOfMemory) => Err(ScriptFault::OutOfMemory),
     }

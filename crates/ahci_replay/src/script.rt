@@ -1,9 +1,9 @@
 //! A script that runs: it takes lines, and writes their answers.
 
+use crate::answer_writer::AnswerWriter;
 use crate::lines::answer_line;
 use crate::script_fault::ScriptFault;
 use crate::session::Session;
-use crate::teller::Teller;
 use ahci_script::Output;
 use std::alloc::Allocator;
 use std::io::Write;
@@ -15,23 +15,23 @@ pub(crate) struct Script<'t, T, A: Allocator> {
     pub(crate) output: Output<A>,
     pub(crate) writes: Writes,
     session: Session<A>,
-    teller: &'t T,
+    writer: &'t T,
 }
 
-impl<'t, T: Teller<A>, A: Allocator + Copy> Script<'t, T, A> {
+impl<'t, T: AnswerWriter<A>, A: Allocator + Copy> Script<'t, T, A> {
     ghost use Rattle.std.specs.Prelude.{◌≡◌, ◌<◌, [], IfErr, None, OnOk, length};
     ghost use Rattle.ahci_replay.specs.Place.{place};
     ghost use Rattle.ahci_replay.specs.Transcript.{Answers, RefusesLine};
 
     /// A script of which nothing came yet, and how the writes went that were before it.
-    pub(crate) fn new(alloc: A, teller: &'t T, writes: Writes) -> Self
+    pub(crate) fn new(alloc: A, writer: &'t T, writes: Writes) -> Self
         ensures { (result.output ≡ []) × ((result.session ≡ None) × (result.writes ≡ writes)) }
     {
         Script {
             output: Output::new(alloc),
             writes,
             session: Session::new(alloc),
-            teller,
+            writer,
         }
     }
 
@@ -51,7 +51,7 @@ impl<'t, T: Teller<A>, A: Allocator + Copy> Script<'t, T, A> {
         answer_line(
             &mut self.session,
             &mut self.output,
-            self.teller,
+            self.writer,
             number,
             line,
         )?;
@@ -62,7 +62,7 @@ impl<'t, T: Teller<A>, A: Allocator + Copy> Script<'t, T, A> {
     }
 }
 
-impl<'t, T: Teller<A>, W: Write, A: Allocator + Copy> TakesLines<W> for Script<'t, T, A> {
+impl<'t, T: AnswerWriter<A>, W: Write, A: Allocator + Copy> TakesLines<W> for Script<'t, T, A> {
     ghost use Rattle.std.specs.Prelude.{◌≡◌, []};
     ghost use Rattle.ahci_replay.specs.Place.{place};
     ghost use Rattle.ahci_replay.specs.Transcript.{Refuses, Takes};

@@ -4,9 +4,9 @@ ghost use Rattle.std.specs.Prelude.{◌≡◌, [], IfErr, None, OnOk};
 ghost use Rattle.streams.specs.Ends.{with_flush};
 ghost use Rattle.ahci_replay.specs.Transcript.{ReadsTo, Replayed, ReplayedTo, WritesTo, answers_alone};
 
+use crate::answer_writer::{AnswerWriter, AnswersAlone};
 use crate::script::Script;
 use crate::script_fault::ScriptFault;
-use crate::teller::{AnswersAlone, Teller};
 use std::alloc::Allocator;
 use std::io::{Read, Write};
 use std::mem;
@@ -35,11 +35,11 @@ pub fn replay<R: Read, W: Write, A: Allocator + Copy>(
     )
 }
 
-/// The same, with what the teller says of each command in the place of its answer. `reads` and `writes` record how the reads and
+/// The same, with what the writer says of each command in the place of its answer. `reads` and `writes` record how the reads and
 /// writes went: where none failed, what was written is flushed, also at a fault of the script.
-pub fn replay_with<T: Teller<A>, R: Read, W: Write, A: Allocator + Copy>(
+pub fn replay_with<T: AnswerWriter<A>, R: Read, W: Write, A: Allocator + Copy>(
     alloc: A,
-    teller: &T,
+    writer: &T,
     reader: &mut R,
     reads: &mut Reads,
     writer: &mut W,
@@ -55,14 +55,14 @@ pub fn replay_with<T: Teller<A>, R: Read, W: Write, A: Allocator + Copy>(
     ensures unfailed { OnOk result (reads.new.failed ≡ reads.old.failed) }
     ensures reads { IfErr result (ReadsTo reads.old reads.new) }
 {
-    let mut script = Script::new(alloc, teller, mem::replace(writes, Writes::new()));
+    let mut script = Script::new(alloc, writer, mem::replace(writes, Writes::new()));
     let outcome = replay_script(alloc, &mut script, reader, reads, writer);
     *writes = script.writes;
     outcome
 }
 
 /// Runs a script of which nothing came yet, and returns how its reads and writes went.
-fn replay_script<'t, T: Teller<A>, R: Read, W: Write, A: Allocator + Copy>(
+fn replay_script<'t, T: AnswerWriter<A>, R: Read, W: Write, A: Allocator + Copy>(
     alloc: A,
     script: &mut Script<'t, T, A>,
     reader: &mut R,

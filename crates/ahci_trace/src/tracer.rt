@@ -14,7 +14,7 @@ use crate::command_trace::CommandTrace;
 use crate::mark::Mark;
 use crate::shown::text_of;
 use ahci_port::Port;
-use ahci_replay::{ScriptFault, Teller, replay_with};
+use ahci_replay::{AnswerWriter, ScriptFault, replay_with};
 use ahci_script::{Output, ScriptAnswer};
 use std::alloc::{AllocError, Allocator};
 use std::io::{Read, Write};
@@ -116,7 +116,7 @@ impl<A: Allocator + Copy> Tracer<A> {
     }
 }
 
-impl<A: Allocator + Copy> Teller<A> for Tracer<A> {
+impl<A: Allocator + Copy> AnswerWriter<A> for Tracer<A> {
     type Before = Mark;
 
     ghost telling = { trace_text };
@@ -148,7 +148,7 @@ pub(crate) struct JsonTracer<A: Allocator> {
     pub(crate) alloc: A,
 }
 
-impl<A: Allocator + Copy> Teller<A> for JsonTracer<A> {
+impl<A: Allocator + Copy> AnswerWriter<A> for JsonTracer<A> {
     type Before = Mark;
 
     ghost telling = { json_line };

@@ -54,11 +54,11 @@ AnswersPowerOn answer old new entries = (answer ≡ status.Done) × HasPoweredOn
 
 abbrev pub AnswersSupply : List ℕ → Status → (old new : HbaView) → Type 0
 AnswersSupply bytes answer old new =
-    ToldOr answer (with_length (run_read old.work).length (length bytes) None) (new ≡ supplied old old.work bytes) (new ≡ old)
+    ToldOr answer (with_length (run_read old.dma).length (length bytes) None) (new ≡ supplied old old.dma bytes) (new ≡ old)
 
 abbrev pub AnswersBytes : Status → HbaView → (before after : List ℕ) → Type 0
 AnswersBytes answer h before after =
-    Told answer (with_length (length (put_next h.work).bytes) (length before) None) (after ≡ (put_next h.work).bytes) (after ≡ before)
+    Told answer (with_length (length (put_next h.dma).bytes) (length before) None) (after ≡ (put_next h.dma).bytes) (after ≡ before)
 
 -- a step that is not possible now
 abbrev pub unless_possible : {X : Type 0} → Option X → Option Status

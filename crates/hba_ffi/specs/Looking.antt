@@ -7,10 +7,10 @@ use Rattle.ahci_ffi.specs.declared.status.Status.{Status}
 use Rattle.ahci_port.specs.PortView.{PortView}
 use Rattle.power_loss.specs.Leaving.{MayBeLeft}
 use Rattle.hba_memory.specs.Reading.{next_run}
-use Rattle.hba_memory.specs.Posting.{remaining}
+use Rattle.hba_memory.specs.DmaWrites.{remaining}
 use Rattle.hba_memory.specs.Runs.{first_put}
 use Rattle.hba_regs.specs.Interrupts.{interrupt}
-use Rattle.ahci_hba.specs.HbaView.{HbaView, WorkView, Fetching, Posting, Block}
+use Rattle.ahci_hba.specs.HbaView.{HbaView, DmaView, Fetching, Writing, Block}
 use Rattle.ahci_hba.specs.Moving.{address_of, want_of}
 use Rattle.ahci_hba.specs.Resetting.{may_sign}
 use Rattle.ahci_hba.specs.Stepping.{next_step}
@@ -38,16 +38,16 @@ step_number (Some step.Control) = 7
 step_number (Some step.Recover) = 8
 
 -- how many bytes are read or written next
-abbrev pub length_moved : WorkView → ℕ
+abbrev pub length_moved : DmaView → ℕ
 length_moved (Fetching slot r) = (next_run r).length
 length_moved (Block p t) = length (first_put (remaining p)).bytes
-length_moved (Posting p e) = length (first_put (remaining p)).bytes
+length_moved (Writing p e) = length (first_put (remaining p)).bytes
 length_moved other = 0
 
 pub record IsLook (h : HbaView) (look : FlatHba) : Type 0 where
   pub address : look.address ≡ address_of h
-  pub length : look.length ≡ length_moved h.work
-  pub want : look.want ≡ want_number (want_of h.work)
+  pub length : look.length ≡ length_moved h.dma
+  pub want : look.want ≡ want_number (want_of h.dma)
   pub interrupt : look.interrupt ≡ number_if (interrupt h.registers)
   pub sign : look.sign ≡ number_if (may_sign h)
   pub depth : look.depth ≡ h.depth

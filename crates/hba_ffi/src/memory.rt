@@ -37,7 +37,7 @@ pub fn bytes<A: Allocator, S: SectorStore>(hba: &Hba<A, S>, out: &mut [u8]) -> S
 /// The bytes that the controller writes are written.
 pub fn written<A: Allocator, S: SectorStore>(hba: &mut Hba<A, S>) -> Status
     ensures done { result ≡ Status.Done }
-    ensures state { hba.new ≡ put_done hba.old hba.old.work }
+    ensures state { hba.new ≡ put_done hba.old hba.old.dma }
 {
     hba.written();
     Status::Done
@@ -46,7 +46,7 @@ pub fn written<A: Allocator, S: SectorStore>(hba: &mut Hba<A, S>) -> Status
 /// The address that the controller reads or writes is no memory.
 pub fn unmapped<A: Allocator, S: SectorStore>(hba: &mut Hba<A, S>) -> Status
     ensures done { result ≡ Status.Done }
-    ensures state { hba.new ≡ unmapped hba.old hba.old.work }
+    ensures state { hba.new ≡ unmapped hba.old hba.old.dma }
 {
     hba.fail_memory();
     Status::Done
@@ -55,7 +55,7 @@ pub fn unmapped<A: Allocator, S: SectorStore>(hba: &mut Hba<A, S>) -> Status
 /// The memory that the controller reads or writes gives or takes wrong data.
 pub fn spoiled<A: Allocator, S: SectorStore>(hba: &mut Hba<A, S>) -> Status
     ensures done { result ≡ Status.Done }
-    ensures state { hba.new ≡ spoiled hba.old hba.old.work }
+    ensures state { hba.new ≡ spoiled hba.old hba.old.dma }
 {
     hba.fail_data();
     Status::Done

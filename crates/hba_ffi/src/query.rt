@@ -34,7 +34,7 @@ pub fn look<A: Allocator, S: SectorStore>(hba: &Hba<A, S>, look: &mut FlatHba) -
 
 /// How many bytes are read or written next.
 fn length_moved<A: Allocator, S: SectorStore>(hba: &Hba<A, S>) -> u64
-    ensures { result ≡ length_moved hba.now.work }
+    ensures { result ≡ length_moved hba.now.dma }
 {
     match hba.want() {
         Want::Nothing => 0,

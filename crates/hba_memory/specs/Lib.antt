@@ -3,6 +3,6 @@ pub mod Processing
 pub mod Gathering
 pub mod Table
 pub mod Blocks
-pub mod Posting
+pub mod DmaWrites
 pub mod Reading
 pub mod Laws

@@ -10,7 +10,7 @@ ghost use Rattle.hba_memory.specs.Table.{next_entries};
 use crate::gather::Gather;
 use crate::lengths::total;
 use crate::reading::Reading;
-use crate::room::Room;
+use crate::reserved_buffer::ReservedBuffer;
 use crate::table::TableReader;
 use hba_command::{CommandHeader, PrdEntry, Task, action_of, command_fis, task_of};
 use std::alloc::{AllocError, Allocator, Global};
@@ -86,7 +86,7 @@ fn after_list<A: Allocator + Copy>(
     task: Task,
     clears: bool,
     list: Vec<PrdEntry, A>,
-    room: Room<A>,
+    room: ReservedBuffer<A>,
 ) -> Reading<A>
     requires { room ≡ read_by task }
     ensures next { reading_of result ≡ after_list task clears list.items }
@@ -114,7 +114,7 @@ fn after_task<A: Allocator + Copy>(
     if moved_by(&task) == 0 {
         return Ok(Reading::Whole(task, header.clears_busy, Vec::new(alloc), Vec::new(alloc)));
     }
-    let room = Room::new(alloc, read_by(&task) as usize)?;
+    let room = ReservedBuffer::new(alloc, read_by(&task) as usize)?;
     if header.entries == 0 {
         return Ok(after_list(task, header.clears_busy, Vec::new(alloc), room));
     }
@@ -143,7 +143,7 @@ fn with_entries<A: Allocator + Copy>(
     task: Task,
     clears: bool,
     table: TableReader<A>,
-    room: Room<A>,
+    room: ReservedBuffer<A>,
     bytes: &[u8],
 ) -> Reading<A>
     requires length { length bytes.now ≡ 16 * next_entries table }

@@ -1,6 +1,6 @@
 //! The data of a command that writes, on their way out of the driver's memory.
 
-use crate::room::Room;
+use crate::reserved_buffer::ReservedBuffer;
 use hba_command::PrdEntry;
 use std::alloc::{Allocator, Global};
 use std::marker::Model;
@@ -32,7 +32,7 @@ impl<A: Allocator> Gather<A> {
     ghost use Rattle.hba_memory.specs.Runs.{first_run, later_runs, runs};
 
     /// The first bytes of the data that lie in the runs which the entries name, as many as there is room for.
-    pub fn over(list: Vec<PrdEntry, A>, room: Room<A>) -> Self
+    pub fn over(list: Vec<PrdEntry, A>, room: ReservedBuffer<A>) -> Self
         ensures list { result.list ≡ list.items }
         ensures runs { result.runs ≡ runs list.items room }
         ensures bytes { result.bytes ≡ [] }

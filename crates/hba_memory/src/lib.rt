@@ -6,26 +6,26 @@
 #![tactic(auto)]
 
 mod blocks;
+mod dma_writes;
 mod fetch;
 mod gather;
 pub mod laws;
 mod lengths;
-mod posting;
 mod processed;
 mod put;
 mod reading;
-mod room;
+mod reserved_buffer;
 mod scatter;
 mod table;
 
 pub use blocks::Blocks;
+pub use dma_writes::DmaWrites;
 pub use fetch::{Fetch, is_short, is_write, moved_by};
 pub use gather::Gather;
 pub use lengths::total;
-pub use posting::Posting;
 pub use processed::has_processed;
 pub use put::SmallPut;
 pub use reading::Reading;
-pub use room::Room;
+pub use reserved_buffer::ReservedBuffer;
 pub use scatter::Scatter;
 pub use table::{MAX_ENTRIES, TableReader};

@@ -1,5 +1,5 @@
 use crate::gather::Gather;
-use crate::room::Room;
+use crate::reserved_buffer::ReservedBuffer;
 use crate::table::TableReader;
 use hba_command::{CommandHeader, PrdEntry, Task};
 use std::alloc::{Allocator, Global};
@@ -12,7 +12,7 @@ pub enum Reading<A: Allocator = Global> {
     /// The command FIS of the command table that the header names.
     Command(CommandHeader),
     /// Entries of the PRDT, and C of the header. There is room for a write's data.
-    Entries(Task, bool, TableReader<A>, Room<A>),
+    Entries(Task, bool, TableReader<A>, ReservedBuffer<A>),
     /// Bytes of a write's data, and C of the header.
     Content(Task, bool, Gather<A>),
     /// Nothing: all of it is read. A command that moves data has its list, which may be too short for a read; one that writes has

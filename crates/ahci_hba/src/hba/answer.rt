@@ -1,17 +1,17 @@
 //! How the device's answers are put together.
 
 ghost use Rattle.std.specs.Prelude.{◌≡◌, ◌≤◌, ◌+◌};
-ghost use Rattle.hba_memory.specs.Posting.{listed};
+ghost use Rattle.hba_memory.specs.DmaWrites.{listed};
 ghost use Rattle.ahci_hba.specs.Moving.{answering, blocking};
 ghost use Rattle.ahci_hba.specs.Queueing.{fis_put, only_after};
 
+use crate::dma_state::DmaState;
 use crate::ending::Ending;
 use crate::hba::Hba;
 use crate::hba::memory::{end, end_block};
 use crate::transfer::Transfer;
-use crate::work::Work;
 use arrayvec::ArrayVec;
-use hba_memory::{Posting, Scatter, SmallPut};
+use hba_memory::{DmaWrites, Scatter, SmallPut};
 use sector_store::SectorStore;
 use std::alloc::Allocator;
 
@@ -49,38 +49,38 @@ impl<A: Allocator, S: SectorStore> Hba<A, S> {
     }
 
     /// Begins to write an answer; one with nothing to write takes effect at once.
-    pub(super) fn answer(&mut self, posting: Posting<A>, ending: Ending)
-        ensures { self.new ≡ answering self.old posting ending }
+    pub(super) fn answer(&mut self, writes: DmaWrites<A>, ending: Ending)
+        ensures { self.new ≡ answering self.old writes ending }
     {
-        if posting.is_done() {
+        if writes.is_done() {
             end(&mut self.registers, ending);
-            self.turn_to(Work::Idle);
+            self.turn_to(DmaState::Idle);
         } else {
-            self.turn_to(Work::Posting(posting, ending));
+            self.turn_to(DmaState::Writing(writes, ending));
         }
     }
 }
 
 impl<A: Allocator, S: SectorStore> Hba<A, S> {
     /// Begins to write a block of a transfer, which goes on so; one with nothing to write has moved at once.
-    pub(super) fn block(&mut self, posting: Posting<A>, transfer: Transfer<A>)
-        ensures { self.new ≡ blocking self.old posting transfer }
+    pub(super) fn block(&mut self, writes: DmaWrites<A>, transfer: Transfer<A>)
+        ensures { self.new ≡ blocking self.old writes transfer }
     {
-        if posting.is_done() {
+        if writes.is_done() {
             end_block(&mut self.registers, &transfer);
-            self.turn_to(Work::Pio(transfer));
+            self.turn_to(DmaState::Pio(transfer));
         } else {
-            self.turn_to(Work::Block(posting, transfer));
+            self.turn_to(DmaState::Block(writes, transfer));
         }
     }
 }
 
 impl<A: Allocator + Copy, S: SectorStore> Hba<A, S> {
     /// An answer of one FIS alone.
-    pub(super) fn only_after(&self, fis: Option<SmallPut>) -> Posting<A>
+    pub(super) fn only_after(&self, fis: Option<SmallPut>) -> DmaWrites<A>
         ensures { result ≡ only_after (listed fis) }
     {
         let content = Scatter::new(Vec::new(self.alloc), Vec::new(self.alloc));
-        Posting::new(None, content, None, fis)
+        DmaWrites::new(None, content, None, fis)
     }
 }

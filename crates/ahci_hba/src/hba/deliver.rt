@@ -1,25 +1,25 @@
 //! How the answer to a command is put together.
 
 ghost use Rattle.std.specs.Prelude.{◌≡◌, ◌≤◌, ◌<◌, ◌^◌, not, ◌||◌, true, IfErr, IfOk, OnErr, OnOk};
-ghost use Rattle.hba_memory.specs.Posting.{listed};
+ghost use Rattle.hba_memory.specs.DmaWrites.{listed};
 ghost use Rattle.hba_memory.specs.Processing.{has_processed};
 ghost use Rattle.hba_memory.specs.Reading.{is_write};
 ghost use Rattle.ahci_table.specs.Fit.{IsFit};
-ghost use Rattle.ahci_hba.specs.Delivering.{answer_with, answered, beginning, beginning_by, bytes_for, closing, count_put, d2h_fis, delivered, dma_answer, done, finish_of, fis_ending, is_pio, page_answer, page_posting, queue_answer, queued_answer, queued_posting, read_answer, read_posting, received_put, sectors_answer, sends_data, served_answer, setup_fis, setup_put};
+ghost use Rattle.ahci_hba.specs.Delivering.{answer_with, answered, beginning, beginning_by, bytes_for, closing, count_put, d2h_fis, delivered, dma_answer, done, finish_of, fis_ending, is_pio, page_answer, page_writes, queue_answer, queued_answer, queued_writes, read_answer, read_writes, received_put, sectors_answer, sends_data, served_answer, setup_fis, setup_put};
 ghost use Rattle.ahci_hba.specs.Stepping.{fault_if, may_deliver};
 ghost use Rattle.ahci_hba.specs.Transfer.{fits, moved_to};
 
+use crate::dma_state::DmaState;
 use crate::ending::Ending;
 use crate::fault::HbaFault;
 use crate::hba::Hba;
 use crate::hba::answer::{DMA_SETUP, PIO_SETUP, REGISTER, SET_BITS};
 use crate::last_fis::LastFis;
 use crate::transfer::Transfer;
-use crate::work::Work;
 use ahci_port::Window;
 use arrayvec::ArrayVec;
 use hba_command::{Action, PrdEntry, Protocol, Task, action_of, block_sectors};
-use hba_memory::{Blocks, Posting, Scatter, SmallPut, has_processed, is_write, total};
+use hba_memory::{Blocks, DmaWrites, Scatter, SmallPut, has_processed, is_write, total};
 use hba_regs::Slot;
 use sata_fis::{D2h, Fis, PioSetup};
 use sector_store::SectorStore;
@@ -151,10 +151,10 @@ impl<A: Allocator, S: SectorStore> Hba<A, S> {
     }
 
     /// What the answer to a queued command writes: a DMA Setup FIS, a read's data, and a Set Device Bits FIS.
-    fn queued_posting(&self, content: Scatter<A>) -> Posting<A>
-        ensures { result ≡ queued_posting self.now.registers self.now.port content }
+    fn queued_writes(&self, content: Scatter<A>) -> DmaWrites<A>
+        ensures { result ≡ queued_writes self.now.registers self.now.port content }
     {
-        Posting::new(
+        DmaWrites::new(
             self.fis_put(DMA_SETUP, 28),
             content,
             None,
@@ -163,10 +163,10 @@ impl<A: Allocator, S: SectorStore> Hba<A, S> {
     }
 
     /// What a read by DMA writes: the data, PRDBC, and a D2H Register FIS.
-    fn read_posting(&self, slot: Slot, content: Scatter<A>, moved: u32, fis: D2h) -> Posting<A>
-        ensures { result ≡ read_posting self.now.registers slot content moved fis }
+    fn read_writes(&self, slot: Slot, content: Scatter<A>, moved: u32, fis: D2h) -> DmaWrites<A>
+        ensures { result ≡ read_writes self.now.registers slot content moved fis }
     {
-        Posting::new(
+        DmaWrites::new(
             None,
             content,
             self.count_put(slot, moved),
@@ -175,10 +175,10 @@ impl<A: Allocator, S: SectorStore> Hba<A, S> {
     }
 
     /// What the answer with a page by PIO writes: a PIO Setup FIS, the page, and PRDBC.
-    fn page_posting(&self, slot: Slot, content: Scatter<A>, moved: u32) -> Posting<A>
-        ensures { result ≡ page_posting self.now.registers slot content moved }
+    fn page_writes(&self, slot: Slot, content: Scatter<A>, moved: u32) -> DmaWrites<A>
+        ensures { result ≡ page_writes self.now.registers slot content moved }
     {
-        Posting::new(
+        DmaWrites::new(
             self.setup_put(true, true, 0x40, 1),
             content,
             self.count_put(slot, moved),
@@ -203,8 +203,8 @@ impl<A: Allocator, S: SectorStore> Hba<A, S> {
             error: 0,
             sactive: 1 << slot.number(),
         };
-        let posting = self.queued_posting(Scatter::new(list, bytes));
-        self.answer(posting, Ending::of_data(whole, processed, bits));
+        let writes = self.queued_writes(Scatter::new(list, bytes));
+        self.answer(writes, Ending::of_data(whole, processed, bits));
     }
 
     /// The answer to a read by DMA, of so many bytes, with the FIS that ends it.
@@ -222,8 +222,8 @@ impl<A: Allocator, S: SectorStore> Hba<A, S> {
         let moved = moved_to(count, &list);
         let processed = has_processed(&list, count);
         let last = fis_ending(slot, &fis);
-        let posting = self.read_posting(slot, Scatter::new(list, bytes), moved, fis);
-        self.answer(posting, Ending::of_data(whole, processed, last));
+        let writes = self.read_writes(slot, Scatter::new(list, bytes), moved, fis);
+        self.answer(writes, Ending::of_data(whole, processed, last));
     }
 
     /// The answer with a page by PIO.
@@ -234,8 +234,8 @@ impl<A: Allocator, S: SectorStore> Hba<A, S> {
         let moved = moved_to(512, &list);
         let processed = has_processed(&list, 512);
         let last = LastFis::Pio { slot };
-        let posting = self.page_posting(slot, Scatter::new(list, page), moved);
-        self.answer(posting, Ending::of_data(whole, processed, last));
+        let writes = self.page_writes(slot, Scatter::new(list, page), moved);
+        self.answer(writes, Ending::of_data(whole, processed, last));
     }
 
     /// A transfer by PIO begins, of so many sectors in blocks of at most so many.
@@ -254,7 +254,7 @@ impl<A: Allocator, S: SectorStore> Hba<A, S> {
         ensures { self.new ≡ beginning self.old slot write sectors most rest finish }
     {
         let transfer = Transfer::new(slot, write, sectors, most, rest, finish);
-        self.turn_to(Work::Pio(transfer));
+        self.turn_to(DmaState::Pio(transfer));
     }
 
     /// The same for a command that moves its data so.
@@ -282,8 +282,8 @@ impl<A: Allocator + Copy, S: SectorStore> Hba<A, S> {
     {
         let last = fis_ending(slot, &fis);
         let content = Scatter::new(Vec::new(self.alloc), Vec::new(self.alloc));
-        let posting = self.read_posting(slot, content, moved, fis);
-        self.answer(posting, Ending::of_data(true, processed, last));
+        let writes = self.read_writes(slot, content, moved, fis);
+        self.answer(writes, Ending::of_data(true, processed, last));
     }
 
     /// The answer to a queued command; the list of a write has room for its data.
@@ -369,43 +369,43 @@ impl<A: Allocator + Copy, S: SectorStore> Hba<A, S> {
 
     /// The bytes that go to the driver.
     fn delivered(&self) -> Result<Vec<u8, A>, AllocError>
-        ensures ok { IfOk result (λ v. v.items ≡ delivered self.now.work) }
-        ensures lacking { OnErr result (sends_data self.now.work ≡ true) }
+        ensures ok { IfOk result (λ v. v.items ≡ delivered self.now.dma) }
+        ensures lacking { OnErr result (sends_data self.now.dma ≡ true) }
     {
-        match &self.work {
-            Work::Served(_, task, window, _) => bytes_for(self.alloc, task, window),
+        match &self.dma {
+            DmaState::Served(_, task, window, _) => bytes_for(self.alloc, task, window),
             _ => Ok(Vec::new(self.alloc)),
         }
     }
 
     /// Puts together the answer to the command that the port has done.
     fn deliver_served(&mut self) -> Result<(), AllocError>
-        ensures ok { OnOk result (self.new ≡ served_answer self.old self.old.work) }
+        ensures ok { OnOk result (self.new ≡ served_answer self.old self.old.dma) }
         ensures err { OnErr result (self.new ≡ self.old) }
-        ensures lacking { OnErr result (sends_data self.old.work ≡ true) }
+        ensures lacking { OnErr result (sends_data self.old.dma ≡ true) }
     {
         let bytes = self.delivered()?;
-        match mem::replace(&mut self.work, Work::Idle) {
-            Work::Served(slot, task, _, list) => {
+        match mem::replace(&mut self.dma, DmaState::Idle) {
+            DmaState::Served(slot, task, _, list) => {
                 self.answer_with(slot, list, bytes, &action_of(&task));
             }
-            other => self.work = other,
+            other => self.dma = other,
         }
         Ok(())
     }
 
     /// Whether it waits for the next block of a transfer by PIO.
     fn is_pio(&self) -> bool
-        ensures { result ≡ is_pio self.now.work }
+        ensures { result ≡ is_pio self.now.dma }
     {
-        matches!(&self.work, Work::Pio(_))
+        matches!(&self.dma, DmaState::Pio(_))
     }
 
     /// Puts an answer together, or the next block of a transfer by PIO; with nothing done, nothing changes.
     fn put_together(&mut self) -> Result<(), AllocError>
-        ensures ok { OnOk result (self.new ≡ answered self.old self.old.work) }
+        ensures ok { OnOk result (self.new ≡ answered self.old self.old.dma) }
         ensures err { OnErr result (self.new ≡ self.old) }
-        ensures lacking { OnErr result (sends_data self.old.work ≡ true) }
+        ensures lacking { OnErr result (sends_data self.old.dma ≡ true) }
     {
         if self.is_pio() {
             return self.go_on();
@@ -421,9 +421,9 @@ impl<A: Allocator + Copy, S: SectorStore> Hba<A, S> {
     /// tried again. Nothing has changed.
     pub fn deliver(&mut self, slot: Slot) -> Result<(), HbaFault>
         ensures ready { OnOk result (may_deliver self.old slot ≡ true) }
-        ensures ok { OnOk result (self.new ≡ answered self.old self.old.work) }
+        ensures ok { OnOk result (self.new ≡ answered self.old self.old.dma) }
         ensures err { IfErr result (λ e. (e ≡ fault_if (may_deliver self.old slot)) × (self.new ≡ self.old)) }
-        ensures lacking { IfErr result (λ e. e ≡ HbaFault.OutOfMemory → sends_data self.old.work ≡ true) }
+        ensures lacking { IfErr result (λ e. e ≡ HbaFault.OutOfMemory → sends_data self.old.dma ≡ true) }
     {
         if !self.may_deliver(slot) {
             return Err(HbaFault::NotReady);

@@ -3,13 +3,13 @@
 ghost use Rattle.std.specs.Prelude.{◌≡◌, true, false, IfErr, OnOk};
 ghost use Rattle.ahci_hba.specs.Events.{bits_fis, device_plugged, device_unplugged, failed_at_interface, link_found, link_lost, lost_journal, may_receive, may_receive_register, receiving_bits, receiving_register, receiving_unknown, unplugged_journal};
 
+use crate::dma_state::DmaState;
 use crate::ending::Ending;
 use crate::fault::HbaFault;
 use crate::hba::Hba;
 use crate::hba::answer::{REGISTER, SET_BITS, UNKNOWN};
 use crate::hba::deliver::d2h_fis;
 use crate::last_fis::LastFis;
-use crate::work::Work;
 use ahci_port::Journal;
 use arrayvec::ArrayVec;
 use hba_regs::{Consequence, InterfaceError};
@@ -52,7 +52,7 @@ impl<A: Allocator, S: SectorStore> Hba<A, S> {
         let stops = is_fatal && self.registers.link_is_up();
         self.registers.fail_interface(error, is_fatal);
         if stops {
-            self.turn_to(Work::Idle);
+            self.turn_to(DmaState::Idle);
         }
     }
 }
@@ -85,8 +85,8 @@ impl<A: Allocator + Copy, S: SectorStore> Hba<A, S> {
             return Err(HbaFault::NotReady);
         }
         let put = self.received_put(UNKNOWN, fis);
-        let posting = self.only_after(put);
-        self.answer(posting, Ending::of(true, LastFis::Unknown));
+        let writes = self.only_after(put);
+        self.answer(writes, Ending::of(true, LastFis::Unknown));
         Ok(())
     }
 
@@ -104,13 +104,13 @@ impl<A: Allocator + Copy, S: SectorStore> Hba<A, S> {
             return Err(HbaFault::NotReady);
         }
         let put = self.received_put(SET_BITS, bits_fis(notification));
-        let posting = self.only_after(put);
+        let writes = self.only_after(put);
         let bits = LastFis::Bits {
             status: 0x40,
             error: 0x00,
             sactive: 0,
         };
-        self.answer(posting, Ending::of(true, bits));
+        self.answer(writes, Ending::of(true, bits));
         Ok(())
     }
 
@@ -127,8 +127,8 @@ impl<A: Allocator + Copy, S: SectorStore> Hba<A, S> {
             return Err(HbaFault::NotReady);
         }
         let put = self.received_put(REGISTER, Fis::D2h(d2h_fis(0x50, 0x00, 0, 0)).encode());
-        let posting = self.only_after(put);
-        self.answer(posting, Ending::of(true, LastFis::Unsolicited));
+        let writes = self.only_after(put);
+        self.answer(writes, Ending::of(true, LastFis::Unsolicited));
         Ok(())
     }
 

@@ -1,12 +1,12 @@
 //! How the device fails a command that moves sectors (ACS-3, "LBA of first unrecoverable error").
 
 ghost use Rattle.std.specs.Prelude.{false, ◌≡◌, ◌≤◌, ◌<◌, ◌-◌, ◌^◌, true, IfErr, IfOk, OnErr, OnOk};
-ghost use Rattle.hba_memory.specs.Posting.{listed};
+ghost use Rattle.hba_memory.specs.DmaWrites.{listed};
 ghost use Rattle.ncq_core.specs.DiskFis.{setup_bytes};
 ghost use Rattle.ahci_port.specs.PortView.{sectors_in};
 ghost use Rattle.ahci_hba.specs.Delivering.{received_put};
 ghost use Rattle.hba_command.specs.Device.{after_ending};
-ghost use Rattle.ahci_hba.specs.Failing.{concluded, ended_with, ending_fis, failed_posting, failure_answered, fails_at, moved_before, moved_sectors, moves_before, moves_some, own_queued, owns, queue_failed, read_failed, sectors_before, sectors_ended, sectors_failed, sectors_of, vacated};
+ghost use Rattle.ahci_hba.specs.Failing.{concluded, ended_with, ending_fis, failed_writes, failure_answered, fails_at, moved_before, moved_sectors, moves_before, moves_some, own_queued, owns, queue_failed, read_failed, sectors_before, sectors_ended, sectors_failed, sectors_of, vacated};
 ghost use Rattle.ahci_hba.specs.Queueing.{command_at, list_in};
 
 use crate::command::Command;
@@ -20,7 +20,7 @@ use ahci_port::Port;
 use hba_command::{
     Action, Addressing, Device, PrdEntry, Protocol, Span, addressed, addressing_of, after_ending,
 };
-use hba_memory::{Blocks, Posting, Scatter, SmallPut, has_processed};
+use hba_memory::{Blocks, DmaWrites, Scatter, SmallPut, has_processed};
 use hba_regs::Slot;
 use sata_fis::{D2h, DmaSetup, Fis, Queued};
 use sector_store::SectorStore;
@@ -97,8 +97,8 @@ impl<A: Allocator + Copy, S: SectorStore> Hba<A, S> {
         let last = fis_ending(slot, &fis);
         self.vacate(slot);
         let put = self.received_put(REGISTER, Fis::D2h(fis).encode());
-        let posting = self.only_after(put);
-        self.answer(posting, Ending::of(true, last));
+        let writes = self.only_after(put);
+        self.answer(writes, Ending::of(true, last));
     }
 
     /// Some sectors go to the driver for a slot, and then a FIS.
@@ -248,22 +248,22 @@ impl<A: Allocator, S: SectorStore> Hba<A, S> {
 
 impl<A: Allocator + Copy, S: SectorStore> Hba<A, S> {
     /// What the answer to a queued command that fails writes, with the sectors that have moved.
-    fn failed_posting(
+    fn failed_writes(
         &self,
         slot: Slot,
         queued: &Queued,
         list: Vec<PrdEntry, A>,
         bytes: Vec<u8, A>,
         sectors: u32,
-    ) -> Posting<A>
+    ) -> DmaWrites<A>
         requires sectors { sectors ≤ 65536 }
-        ensures { result ≡ failed_posting self.now.registers self.now.port slot queued.now list.items bytes.items sectors }
+        ensures { result ≡ failed_writes self.now.registers self.now.port slot queued.now list.items bytes.items sectors }
     {
         let fis = self.fis_put(SET_BITS, 8);
         if sectors == 0 {
             return self.only_after(fis);
         }
-        Posting::new(
+        DmaWrites::new(
             self.queue_setup_put(slot, queued),
             Scatter::new(list, bytes),
             None,
@@ -291,8 +291,8 @@ impl<A: Allocator + Copy, S: SectorStore> Hba<A, S> {
             error,
             sactive: 0,
         };
-        let posting = self.failed_posting(slot, queued, list, bytes, sectors);
-        self.answer(posting, Ending::of_data(whole, processed, bits));
+        let writes = self.failed_writes(slot, queued, list, bytes, sectors);
+        self.answer(writes, Ending::of_data(whole, processed, bits));
     }
 
     /// The disk behind a queued command that has failed.

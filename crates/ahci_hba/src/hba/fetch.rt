@@ -8,9 +8,9 @@ ghost use Rattle.ahci_hba.specs.Outlook.{IsNearest, Reaches, comes_behind, is_wi
 ghost use Rattle.ahci_hba.specs.Queueing.{is_overtaken, is_ready, is_running, is_sent, may_fetch, waits};
 
 use crate::command::{Command, Listed};
+use crate::dma_state::DmaState;
 use crate::fault::HbaFault;
 use crate::hba::{Hba, SLOTS};
-use crate::work::Work;
 use hba_command::{Action, Task, action_of};
 use hba_memory::Fetch;
 use hba_regs::{Slot, SoftReset};
@@ -112,9 +112,9 @@ impl<A: Allocator, S: SectorStore> Hba<A, S> {
 
     /// Whether nothing is read or written just now.
     pub(super) fn is_idle(&self) -> bool
-        ensures { result ≡ is_idle self.now.work }
+        ensures { result ≡ is_idle self.now.dma }
     {
-        matches!(&self.work, Work::Idle)
+        matches!(&self.dma, DmaState::Idle)
     }
 
     /// Whether a step may be taken with the command list: it is processed, and nothing is read or written just now.
@@ -286,7 +286,7 @@ impl<A: Allocator, S: SectorStore> Hba<A, S> {
             .list_base()
             .wrapping_add(32 * u64::from(slot.number()));
         self.registers.select(slot);
-        self.turn_to(Work::Fetching(slot, Fetch::new(place)));
+        self.turn_to(DmaState::Fetching(slot, Fetch::new(place)));
         Ok(())
     }
 }

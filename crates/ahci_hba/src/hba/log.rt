@@ -11,12 +11,12 @@ ghost use Rattle.ahci_hba.specs.Queueing.{command_at, list_in};
 ghost use Rattle.ahci_hba.specs.Storing.{content_in, log_stored, log_taken_by};
 
 use crate::command::Command;
+use crate::dma_state::DmaState;
 use crate::fault::HbaFault;
 use crate::hba::Hba;
 use crate::hba::deliver::done;
 use crate::hba::execute::aborted;
 use crate::transfer::Transfer;
-use crate::work::Work;
 use hba_command::{
     Device, DiskPage, HostLogs, HostPages, Log, LogPages, LongLog, PrdEntry, Protocol,
     after_error_log, after_page, allows_log, allows_page, long_log_page, ready_page, unfailed_page,
@@ -224,7 +224,7 @@ impl<A: Allocator + Copy, S: SectorStore> Hba<A, S> {
             Protocol::Pio | Protocol::Multiple => {
                 let rest = Blocks::new(list, Vec::new(self.alloc));
                 let transfer = Transfer::new(slot, true, blocks, 1, rest, Some(done()));
-                self.turn_to(Work::Pio(transfer.writing_log(logs)));
+                self.turn_to(DmaState::Pio(transfer.writing_log(logs)));
             }
             Protocol::Dma => {
                 let processed = has_processed(&list, 512 * blocks);

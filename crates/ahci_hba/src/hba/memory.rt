@@ -1,16 +1,16 @@
 //! How the controller reads and writes the driver's memory: it says what comes next, and learns by a call that it is done.
 
 ghost use Rattle.std.specs.Prelude.{◌≡◌, true, length, OnErr, OnOk};
-ghost use Rattle.ahci_hba.specs.{HbaView.{command_of, work_of}, Moving.{address_of, allocates_with, block_ended, ended, ended_by, failed_fatally, host_failed, overflowed, place_of, placed_in, processed, put_done, put_next, read_so_far, run_read, spoiled, stuck_with, supplied, unmapped, want_of}};
-ghost use Rattle.ahci_hba.specs.States.{IsSoundWork};
+ghost use Rattle.ahci_hba.specs.{HbaView.{command_of, dma_of}, Moving.{address_of, allocates_with, block_ended, ended, ended_by, failed_fatally, host_failed, overflowed, place_of, placed_in, processed, put_done, put_next, read_so_far, run_read, spoiled, stuck_with, supplied, unmapped, want_of}};
+ghost use Rattle.ahci_hba.specs.States.{IsSoundDma};
 
 use crate::command::{Command, Listed};
+use crate::dma_state::DmaState;
 use crate::ending::Ending;
 use crate::hba::Hba;
 use crate::last_fis::LastFis;
 use crate::transfer::Transfer;
 use crate::want::Want;
-use crate::work::Work;
 use hba_memory::{Fetch, Reading};
 use hba_regs::{Fatal, HbaRegs, Slot};
 use sector_store::SectorStore;
@@ -90,12 +90,12 @@ pub(super) fn end_block<A: Allocator>(registers: &mut HbaRegs, transfer: &Transf
 impl<A: Allocator, S: SectorStore> Hba<A, S> {
     /// What the controller does next with the driver's memory.
     pub fn want(&self) -> Want
-        ensures { result ≡ want_of self.now.work }
+        ensures { result ≡ want_of self.now.dma }
     {
-        match &self.work {
-            Work::Fetching(_, _) => Want::Read,
-            Work::Block(_, _) | Work::Posting(_, _) => Want::Write,
-            Work::Idle | Work::Served(_, _, _, _) | Work::Pio(_) => Want::Nothing,
+        match &self.dma {
+            DmaState::Fetching(_, _) => Want::Read,
+            DmaState::Block(_, _) | DmaState::Writing(_, _) => Want::Write,
+            DmaState::Idle | DmaState::Served(_, _, _, _) | DmaState::Pio(_) => Want::Nothing,
         }
     }
 
@@ -113,57 +113,57 @@ impl<A: Allocator, S: SectorStore> Hba<A, S> {
 
     /// The same with all 64 bits of the driver's pointers.
     fn pointer(&self) -> u64
-        ensures { result ≡ place_of self.now.work }
+        ensures { result ≡ place_of self.now.dma }
     {
-        match &self.work {
-            Work::Fetching(_, fetch) => fetch.address(),
-            Work::Block(posting, _) => posting.address(),
-            Work::Posting(posting, _) => posting.address(),
-            Work::Idle | Work::Served(_, _, _, _) | Work::Pio(_) => 0,
+        match &self.dma {
+            DmaState::Fetching(_, fetch) => fetch.address(),
+            DmaState::Block(writes, _) => writes.address(),
+            DmaState::Writing(writes, _) => writes.address(),
+            DmaState::Idle | DmaState::Served(_, _, _, _) | DmaState::Pio(_) => 0,
         }
     }
 
     /// How many bytes it reads next; 0 if it reads none.
     pub fn read_length(&self) -> usize
-        ensures { result ≡ (run_read self.now.work).length }
+        ensures { result ≡ (run_read self.now.dma).length }
     {
-        match &self.work {
-            Work::Fetching(_, fetch) => fetch.length(),
+        match &self.dma {
+            DmaState::Fetching(_, fetch) => fetch.length(),
             _ => 0,
         }
     }
 
     /// The bytes that it writes next; none if it writes none.
     pub fn bytes(&self) -> &[u8]
-        ensures { result.now ≡ (put_next self.now.work).bytes }
+        ensures { result.now ≡ (put_next self.now.dma).bytes }
     {
-        match &self.work {
-            Work::Block(posting, _) => posting.bytes(),
-            Work::Posting(posting, _) => posting.bytes(),
+        match &self.dma {
+            DmaState::Block(writes, _) => writes.bytes(),
+            DmaState::Writing(writes, _) => writes.bytes(),
             _ => &[],
         }
     }
 
     /// The bytes that it writes are written. With the last ones of an answer or a block, that takes effect.
     pub fn written(&mut self)
-        ensures { self.new ≡ put_done self.old self.old.work }
+        ensures { self.new ≡ put_done self.old self.old.dma }
     {
-        match mem::replace(&mut self.work, Work::Idle) {
-            Work::Block(mut posting, transfer) => {
-                posting.advance();
-                self.block(posting, transfer);
+        match mem::replace(&mut self.dma, DmaState::Idle) {
+            DmaState::Block(mut writes, transfer) => {
+                writes.advance();
+                self.block(writes, transfer);
             }
-            Work::Posting(mut posting, ending) => {
-                posting.advance();
-                self.answer(posting, ending);
+            DmaState::Writing(mut writes, ending) => {
+                writes.advance();
+                self.answer(writes, ending);
             }
-            other => self.work = other,
+            other => self.dma = other,
         }
     }
 
     /// The address that it reads or writes is no memory, a bad pointer of the driver: HBFS (AHCI 1.3.1, sections 3.3.5 and 6.1). The port halts.
     pub fn fail_memory(&mut self)
-        ensures { self.new ≡ unmapped self.old self.old.work }
+        ensures { self.new ≡ unmapped self.old self.old.dma }
     {
         self.fail_host(Fatal::HostBusFatal);
     }
@@ -171,20 +171,20 @@ impl<A: Allocator, S: SectorStore> Hba<A, S> {
     /// The memory that it reads or writes gives or takes wrong data, as by an error that its check bits can't correct: HBDS (sections 3.3.5 and 6.1). The
     /// port halts.
     pub fn fail_data(&mut self)
-        ensures { self.new ≡ spoiled self.old self.old.work }
+        ensures { self.new ≡ spoiled self.old self.old.dma }
     {
         self.fail_host(Fatal::HostBusData);
     }
 
     /// An access to memory ends in a fatal error; without one nothing changes.
     fn fail_host(&mut self, fatal: Fatal)
-        ensures { self.new ≡ host_failed fatal self.old self.old.work }
+        ensures { self.new ≡ host_failed fatal self.old self.old.dma }
     {
-        match &self.work {
-            Work::Fetching(_, _) | Work::Block(_, _) | Work::Posting(_, _) => {
+        match &self.dma {
+            DmaState::Fetching(_, _) | DmaState::Block(_, _) | DmaState::Writing(_, _) => {
                 self.fail_fatally(fatal)
             }
-            Work::Idle | Work::Served(_, _, _, _) | Work::Pio(_) => {}
+            DmaState::Idle | DmaState::Served(_, _, _, _) | DmaState::Pio(_) => {}
         }
     }
 }
@@ -195,24 +195,24 @@ impl<A: Allocator + Copy, S: SectorStore> Hba<A, S> {
     /// # Errors
     /// An allocation failed, with the command FIS of a command that moves data; nothing has changed, and the same bytes may be supplied again.
     pub fn supply(&mut self, bytes: &[u8]) -> Result<(), AllocError>
-        requires { length bytes.now ≡ (run_read self.old.work).length }
-        ensures ok { OnOk result (self.new ≡ supplied self.old self.old.work bytes.now) }
+        requires { length bytes.now ≡ (run_read self.old.dma).length }
+        ensures ok { OnOk result (self.new ≡ supplied self.old self.old.dma bytes.now) }
         ensures err { OnErr result (self.new ≡ self.old) }
-        ensures lacking { OnErr result (allocates_with self.old.work bytes.now ≡ true) }
+        ensures lacking { OnErr result (allocates_with self.old.dma bytes.now ≡ true) }
     {
-        match mem::replace(&mut self.work, Work::Idle) {
-            Work::Fetching(slot, mut fetch) => match fetch.supply(self.alloc, bytes) {
+        match mem::replace(&mut self.dma, DmaState::Idle) {
+            DmaState::Fetching(slot, mut fetch) => match fetch.supply(self.alloc, bytes) {
                 Ok(()) => {
                     self.read_so_far(slot, fetch);
                     Ok(())
                 }
                 Err(fault) => {
-                    self.work = Work::Fetching(slot, fetch);
+                    self.dma = DmaState::Fetching(slot, fetch);
                     Err(fault)
                 }
             },
             other => {
-                self.work = other;
+                self.dma = other;
                 Ok(())
             }
         }
@@ -221,11 +221,11 @@ impl<A: Allocator + Copy, S: SectorStore> Hba<A, S> {
 
 impl<A: Allocator, S: SectorStore> Hba<A, S> {
     /// The controller does something else with the driver's memory.
-    pub(super) fn turn_to(&mut self, work: Work<A>)
-        requires { IsSoundWork (work_of work) }
-        ensures { self.new ≡ record self.old { work = work_of work } }
+    pub(super) fn turn_to(&mut self, dma: DmaState<A>)
+        requires { IsSoundDma (dma_of dma) }
+        ensures { self.new ≡ record self.old { dma = dma_of dma } }
     {
-        self.work = work;
+        self.dma = dma;
     }
 
     /// Goes on with a slot's command: it is read further, is in its slot, or ends in a fatal error.
@@ -233,7 +233,7 @@ impl<A: Allocator, S: SectorStore> Hba<A, S> {
         ensures { self.new ≡ read_so_far self.old slot fetch }
     {
         if !fetch.is_over() {
-            self.turn_to(Work::Fetching(slot, fetch));
+            self.turn_to(DmaState::Fetching(slot, fetch));
             return;
         }
         match fetch.into_reading() {
@@ -251,7 +251,7 @@ impl<A: Allocator, S: SectorStore> Hba<A, S> {
     {
         self.registers.send(slot, clears);
         self.slots[slot.index()] = Some(Listed { command });
-        self.work = Work::Idle;
+        self.dma = DmaState::Idle;
     }
 
     /// The command FIS of a write is sent whose list is too short: the port is stuck.
@@ -259,7 +259,7 @@ impl<A: Allocator, S: SectorStore> Hba<A, S> {
         ensures { self.new ≡ stuck_with self.old slot clears }
     {
         self.registers.stick(slot, clears);
-        self.work = Work::Idle;
+        self.dma = DmaState::Idle;
     }
 
     /// A fatal error: the port halts, and nothing is read or written any more.
@@ -267,6 +267,6 @@ impl<A: Allocator, S: SectorStore> Hba<A, S> {
         ensures { self.new ≡ failed_fatally self.old fatal }
     {
         self.registers.fail_fatally(fatal);
-        self.work = Work::Idle;
+        self.dma = DmaState::Idle;
     }
 }

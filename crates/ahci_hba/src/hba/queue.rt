@@ -9,13 +9,13 @@ ghost use Rattle.ahci_hba.specs.Failing.{Fails, FailsRequest, own_in};
 ghost use Rattle.ahci_hba.specs.Stepping.{RefusesFor, Serves, fault_if, is_taken_up, is_waiting, marked_at, may_accept, may_fail, may_serve};
 
 use crate::command::Command;
+use crate::dma_state::DmaState;
 use crate::ending::Ending;
 use crate::fault::HbaFault;
 use crate::hba::Hba;
 use crate::hba::answer::REGISTER;
 use crate::hba::fail::{fails_at, own_queued};
 use crate::last_fis::LastFis;
-use crate::work::Work;
 use ahci_port::{DeviceStep, Phase, Stepped, Window};
 use hba_command::{PrdEntry, Task, action_of};
 use hba_regs::Slot;
@@ -129,7 +129,7 @@ impl<A: Allocator + Copy, S: SectorStore> Hba<A, S> {
     {
         let (task, list) = self.take_command(slot);
         self.clear_behind(&action_of(&task));
-        self.turn_to(Work::Served(slot, task, window, list));
+        self.turn_to(DmaState::Served(slot, task, window, list));
     }
 
     /// The device moves the data of the command of a slot, which it may serve, and completes it.
@@ -182,8 +182,8 @@ impl<A: Allocator + Copy, S: SectorStore> Hba<A, S> {
             return;
         }
         let fis = self.fis_put(REGISTER, 20);
-        let posting = self.only_after(fis);
-        self.answer(posting, Ending::of(true, accepting(slot, stepped)));
+        let writes = self.only_after(fis);
+        self.answer(writes, Ending::of(true, accepting(slot, stepped)));
     }
 
     /// The device fails the queued command of a slot that it has taken, with an error byte at one of its sectors: a Set Device Bits

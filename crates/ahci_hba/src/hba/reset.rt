@@ -183,8 +183,8 @@ impl<A: Allocator + Copy, S: SectorStore> Hba<A, S> {
         ensures { self.new ≡ signing_for self.old kind }
     {
         let put = self.received_put(REGISTER, Fis::D2h(signature(kind)).encode());
-        let posting = self.only_after(put);
-        self.answer(posting, Ending::of(true, LastFis::Signature(kind)));
+        let writes = self.only_after(put);
+        self.answer(writes, Ending::of(true, LastFis::Signature(kind)));
     }
 
     /// The device takes the control FIS of a slot (AHCI 1.3.1, section 10.4.1). One with SRST holds it in a reset and drops all

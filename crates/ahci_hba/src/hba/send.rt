@@ -81,7 +81,7 @@ fn write_fault<A: Allocator, S: SectorStore>(
 }
 
 /// The same of a read, or of a write of these bytes.
-fn work_fault<A: Allocator, S: SectorStore>(
+fn dma_fault<A: Allocator, S: SectorStore>(
     port: &Port<A, S>,
     slot: Slot,
     write: bool,
@@ -171,10 +171,10 @@ fn action_fault<A: Allocator, S: SectorStore>(
 {
     match action {
         Action::Queue(queued) => {
-            work_fault(port, slot, queued.write, queued.lba, queued.sectors, bytes)
+            dma_fault(port, slot, queued.write, queued.lba, queued.sectors, bytes)
         }
         Action::Sectors { write, span, .. } => {
-            work_fault(port, slot, *write, span.lba, span.sectors, bytes)
+            dma_fault(port, slot, *write, span.lba, span.sectors, bytes)
         }
         Action::Page(_, _) | Action::Flush(_) | Action::Reply(_) | Action::Control { .. } => {
             port.submit_fault(slot.number(), 0, 0)

@@ -8,12 +8,12 @@ ghost use Rattle.ahci_hba.specs.Stepping.{IsTaken, StepMayLack, delivers_for, de
 ghost use Rattle.ahci_hba.specs.Storing.{content_in};
 
 use crate::command::Command;
+use crate::dma_state::DmaState;
 use crate::fault::HbaFault;
 use crate::hba::reset::control_of;
 use crate::hba::{Hba, SLOTS};
 use crate::outlook::Outlook;
 use crate::step::Step;
-use crate::work::Work;
 use ahci_port::{Journal, Phase};
 use hba_command::{Action, action_of};
 use hba_regs::Slot;
@@ -34,23 +34,29 @@ fn step_in(phase: Phase) -> Option<Step>
 impl<A: Allocator, S: SectorStore> Hba<A, S> {
     /// Whether the port has done the command of a slot, and its answer is to be put together; or the next block of its transfer by PIO.
     fn delivers_for(&self, slot: Slot) -> bool
-        ensures { result ≡ delivers_for self.now.work slot }
+        ensures { result ≡ delivers_for self.now.dma slot }
     {
-        match &self.work {
-            Work::Served(served, _, _, _) => *served == slot,
-            Work::Pio(transfer) => transfer.slot() == slot,
-            Work::Idle | Work::Fetching(_, _) | Work::Block(_, _) | Work::Posting(_, _) => false,
+        match &self.dma {
+            DmaState::Served(served, _, _, _) => *served == slot,
+            DmaState::Pio(transfer) => transfer.slot() == slot,
+            DmaState::Idle
+            | DmaState::Fetching(_, _)
+            | DmaState::Block(_, _)
+            | DmaState::Writing(_, _) => false,
         }
     }
 
     /// The slot that the port has done a command for, or whose transfer by PIO goes on.
     fn delivering(&self) -> Option<Slot>
-        ensures { result ≡ delivering self.now.work }
+        ensures { result ≡ delivering self.now.dma }
     {
-        match &self.work {
-            Work::Served(served, _, _, _) => Some(*served),
-            Work::Pio(transfer) => Some(transfer.slot()),
-            Work::Idle | Work::Fetching(_, _) | Work::Block(_, _) | Work::Posting(_, _) => None,
+        match &self.dma {
+            DmaState::Served(served, _, _, _) => Some(*served),
+            DmaState::Pio(transfer) => Some(transfer.slot()),
+            DmaState::Idle
+            | DmaState::Fetching(_, _)
+            | DmaState::Block(_, _)
+            | DmaState::Writing(_, _) => None,
         }
     }
 

@@ -2,26 +2,31 @@
 
 ghost use Rattle.std.specs.Prelude.{◌≡◌, ◌<◌, ◌≤◌, false, true, IfOk, OnErr, OnOk};
 ghost use Rattle.hba_memory.specs.Blocks.{block_puts};
-ghost use Rattle.ahci_hba.specs.Delivering.{block_content, block_in, block_out, block_posting, content_of, finishing, going_on, gone_on, only_before, sends_data, setup_put, stepped_on};
+ghost use Rattle.ahci_hba.specs.Delivering.{block_content, block_in, block_out, block_writes, content_of, finishing, going_on, gone_on, only_before, sends_data, setup_put, stepped_on};
 ghost use Rattle.ahci_hba.specs.Transfer.{next_block, next_sectors, sends_block};
 
+use crate::dma_state::DmaState;
 use crate::ending::Ending;
 use crate::hba::Hba;
 use crate::last_fis::LastFis;
 use crate::transfer::Transfer;
-use crate::work::Work;
-use hba_memory::{Posting, Scatter};
+use hba_memory::{DmaWrites, Scatter};
 use sector_store::SectorStore;
 use std::alloc::{AllocError, Allocator};
 use std::mem;
 
 impl<A: Allocator, S: SectorStore> Hba<A, S> {
     /// What a block to the driver writes: a PIO Setup FIS, the block, and PRDBC with the bytes so far.
-    fn block_posting(&self, transfer: &Transfer<A>, content: Scatter<A>, e_status: u8) -> Posting<A>
+    fn block_writes(
+        &self,
+        transfer: &Transfer<A>,
+        content: Scatter<A>,
+        e_status: u8,
+    ) -> DmaWrites<A>
         requires { content ≡ block_puts transfer.now.rest (next_sectors transfer.now) }
-        ensures { result ≡ block_posting self.now.registers transfer.now e_status }
+        ensures { result ≡ block_writes self.now.registers transfer.now e_status }
     {
-        Posting::new(
+        DmaWrites::new(
             self.setup_put(true, true, e_status, transfer.next_sectors()),
             content,
             self.count_put(transfer.slot(), transfer.moved_so_far()),
@@ -37,13 +42,13 @@ impl<A: Allocator, S: SectorStore> Hba<A, S> {
     {
         let slot = transfer.slot();
         if transfer.is_last() {
-            let posting = self.block_posting(&transfer, content, 0x40);
+            let writes = self.block_writes(&transfer, content, 0x40);
             let last = LastFis::Pio { slot };
             let processed = transfer.next_processes();
-            self.answer(posting, Ending::of_data(transfer.fits(), processed, last));
+            self.answer(writes, Ending::of_data(transfer.fits(), processed, last));
         } else {
-            let posting = self.block_posting(&transfer, content, 0xC0);
-            self.block(posting, next_of(transfer));
+            let writes = self.block_writes(&transfer, content, 0xC0);
+            self.block(writes, next_of(transfer));
         }
     }
 }
@@ -74,12 +79,12 @@ fn block_content<A: Allocator + Copy>(
 
 impl<A: Allocator + Copy, S: SectorStore> Hba<A, S> {
     /// An answer of a PIO Setup FIS alone, for a block of so many sectors to the device.
-    fn out_posting(&self, i: bool, sectors: u32) -> Posting<A>
+    fn out_writes(&self, i: bool, sectors: u32) -> DmaWrites<A>
         requires { sectors ≤ 16 }
         ensures { result ≡ only_before (setup_put self.now.registers false i 0xC0 sectors) }
     {
         let content = Scatter::new(Vec::new(self.alloc), Vec::new(self.alloc));
-        Posting::new(self.setup_put(false, i, 0xC0, sectors), content, None, None)
+        DmaWrites::new(self.setup_put(false, i, 0xC0, sectors), content, None, None)
     }
 
     /// A block of a write, of so many sectors, which the transfer has behind it then.
@@ -87,8 +92,8 @@ impl<A: Allocator + Copy, S: SectorStore> Hba<A, S> {
         requires { sectors ≤ 16 }
         ensures { self.new ≡ block_out self.old sectors transfer }
     {
-        let posting = self.out_posting(transfer.has_interrupt(), sectors);
-        self.block(posting, transfer);
+        let writes = self.out_writes(transfer.has_interrupt(), sectors);
+        self.block(writes, transfer);
     }
 
     /// The end of a transfer, whose blocks are done. If it writes a log of the host's, the log is written now.
@@ -102,7 +107,7 @@ impl<A: Allocator + Copy, S: SectorStore> Hba<A, S> {
                 self.log_behind(transfer.into_logs());
                 self.close(slot, moved, false, fis);
             }
-            None => self.turn_to(Work::Idle),
+            None => self.turn_to(DmaState::Idle),
         }
     }
 
@@ -123,20 +128,20 @@ impl<A: Allocator + Copy, S: SectorStore> Hba<A, S> {
 
     /// The next block of a transfer to the driver, on its way.
     fn next_content(&self) -> Result<Scatter<A>, AllocError>
-        ensures ok { IfOk result (λ s. s ≡ content_of self.now.work) }
-        ensures lacking { OnErr result (sends_data self.now.work ≡ true) }
+        ensures ok { IfOk result (λ s. s ≡ content_of self.now.dma) }
+        ensures lacking { OnErr result (sends_data self.now.dma ≡ true) }
     {
-        match &self.work {
-            Work::Pio(transfer) => block_content(self.alloc, transfer),
+        match &self.dma {
+            DmaState::Pio(transfer) => block_content(self.alloc, transfer),
             _ => Ok(Scatter::new(Vec::new(self.alloc), Vec::new(self.alloc))),
         }
     }
 
     /// Puts together the next block of a transfer, while FRE is 1.
     pub(super) fn go_on(&mut self) -> Result<(), AllocError>
-        ensures ok { OnOk result (self.new ≡ gone_on self.old self.old.work) }
+        ensures ok { OnOk result (self.new ≡ gone_on self.old self.old.dma) }
         ensures err { OnErr result (self.new ≡ self.old) }
-        ensures lacking { OnErr result (sends_data self.old.work ≡ true) }
+        ensures lacking { OnErr result (sends_data self.old.dma ≡ true) }
     {
         if self.registers.is_receiving() {
             return self.step_on();
@@ -146,14 +151,14 @@ impl<A: Allocator + Copy, S: SectorStore> Hba<A, S> {
 
     /// Puts together the next block of a transfer.
     fn step_on(&mut self) -> Result<(), AllocError>
-        ensures ok { OnOk result (self.new ≡ stepped_on self.old self.old.work) }
+        ensures ok { OnOk result (self.new ≡ stepped_on self.old self.old.dma) }
         ensures err { OnErr result (self.new ≡ self.old) }
-        ensures lacking { OnErr result (sends_data self.old.work ≡ true) }
+        ensures lacking { OnErr result (sends_data self.old.dma ≡ true) }
     {
         let content = self.next_content()?;
-        match mem::replace(&mut self.work, Work::Idle) {
-            Work::Pio(transfer) => self.move_on(transfer, content),
-            other => self.work = other,
+        match mem::replace(&mut self.dma, DmaState::Idle) {
+            DmaState::Pio(transfer) => self.move_on(transfer, content),
+            other => self.dma = other,
         }
         Ok(())
     }

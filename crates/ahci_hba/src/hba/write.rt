@@ -6,9 +6,9 @@ ghost use Rattle.ahci_hba.specs.Queueing.{is_sent};
 ghost use Rattle.ahci_hba.specs.Dropping.{drops_requests, emptied, handed_out, is_reset, is_spent, journal_out, port_after, settled_work, written};
 
 use crate::command::Listed;
+use crate::dma_state::DmaState;
 use crate::hba::Hba;
 use crate::hba::fetch::is_sent;
-use crate::work::Work;
 use ahci_port::{Journal, Port};
 use hba_regs::{AccessSize, Consequence};
 use sector_store::SectorStore;
@@ -44,22 +44,22 @@ impl<A: Allocator, S: SectorStore> Hba<A, S> {
     }
 
     /// Drops the FISes that are still to be written, if FRE is 0.
-    fn settle_work(&mut self)
+    fn settle_dma(&mut self)
         ensures { self.new ≡ settled_work self.old }
     {
         if self.registers.is_receiving() {
             return;
         }
-        match mem::replace(&mut self.work, Work::Idle) {
-            Work::Block(mut posting, transfer) => {
-                posting.drop_fises();
-                self.block(posting, transfer);
+        match mem::replace(&mut self.dma, DmaState::Idle) {
+            DmaState::Block(mut writes, transfer) => {
+                writes.drop_fises();
+                self.block(writes, transfer);
             }
-            Work::Posting(mut posting, ending) => {
-                posting.drop_fises();
-                self.answer(posting, ending);
+            DmaState::Writing(mut writes, ending) => {
+                writes.drop_fises();
+                self.answer(writes, ending);
             }
-            other => self.work = other,
+            other => self.dma = other,
         }
     }
 
@@ -68,7 +68,7 @@ impl<A: Allocator, S: SectorStore> Hba<A, S> {
         ensures { self.new ≡ emptied self.old }
     {
         clear(self.slots.as_mut_slice());
-        self.turn_to(Work::Idle);
+        self.turn_to(DmaState::Idle);
     }
 }
 
@@ -106,7 +106,7 @@ impl<A: Allocator + Copy, S: SectorStore> Hba<A, S> {
     {
         let consequence = self.registers.write(offset, size, value);
         if let Consequence::Nothing = consequence {
-            self.settle_work();
+            self.settle_dma();
             return None;
         }
         let journal = self.reset_port(consequence);

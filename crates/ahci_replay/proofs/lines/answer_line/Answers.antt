@@ -8,7 +8,7 @@ returns-in-Ok-Skip-clause-ok g c = skip_grown c.args.number c.args.session.now c
 
 pub returns-in-Ok-Run-clause-ok : goal.returns-in-Ok-Run-clause-ok
 returns-in-Ok-Run-clause-ok g c =
-    ran_grown g.T.Teller.telling c.args.number c.answer_command.result (Line c.args.number) c.args.session.now c.answer_command.new.session c.args.line.now c.args.output.now c.answer_command.new.output
+    ran_grown g.T.AnswerWriter.telling c.args.number c.answer_command.result (Line c.args.number) c.args.session.now c.answer_command.new.session c.args.line.now c.args.output.now c.answer_command.new.output
     c.in-Ok-Run.command
     (search rules) c.answer_command.ensures.wrong c.answer_command.ensures.ok
 

@@ -1,9 +1,9 @@
 use Rattle.std.proofs.Common.{ap, refl, subst, sym}
 use Rattle.streams.proofs.FoundLemmas.{if_err_from}
-use Rattle.ahci_check.specs.Sheets.{Desk, FailsTelling, stand}
+use Rattle.ahci_check.specs.Reports.{Desk, FailsTelling, stand}
 use Rattle.ahci_check.specs.declared.check_fault.CheckFault.TheVariants.{OutOfMemory}
-use Rattle.ahci_check.proofs.SheetLemmas.{put_failed, put_sent, waits}
-use Rattle.ahci_check.proofs.sheet.Sheet.tell.Goals as goal
+use Rattle.ahci_check.proofs.ReportLemmas.{put_failed, put_sent, waits}
+use Rattle.ahci_check.proofs.report.Report.tell.Goals as goal
 
 pub returns-in_err-put-clause-err : goal.returns-in_err-put-clause-err
 returns-in_err-put-clause-err g c =

@@ -1,14 +1,14 @@
 use std::alloc::{AllocError, Allocator, Global};
 use std::marker::Model;
 
-/// Room for so many bytes, with none in it. Contracts see how many.
+/// ReservedBuffer for so many bytes, with none in it. Contracts see how many.
 #[derive(Drop)]
-pub struct Room<A: Allocator = Global> {
+pub struct ReservedBuffer<A: Allocator = Global> {
     bytes: Vec<u8, A>,
     length: usize,
 }
 
-impl<A: Allocator> Model for Room<A> {
+impl<A: Allocator> Model for ReservedBuffer<A> {
     ghost use Rattle.std.specs.Prelude.{◌≡◌, ◌≤◌, ℕ, [], vec_capacity};
 
     ghost Value = { ℕ };
@@ -18,7 +18,7 @@ impl<A: Allocator> Model for Room<A> {
     ghost invariant = { λ r. (r.bytes.items ≡ []) × (r.length ≤ vec_capacity r.bytes) };
 }
 
-impl<A: Allocator> Room<A> {
+impl<A: Allocator> ReservedBuffer<A> {
     ghost use Rattle.std.specs.Prelude.{◌≡◌, ◌≤◌, [], IfOk, vec_capacity};
 
     /// Allocates room for so many bytes.
@@ -26,7 +26,7 @@ impl<A: Allocator> Room<A> {
         ensures { IfOk result (λ r. r ≡ length) }
     {
         let bytes = Vec::with_capacity(alloc, length)?;
-        Ok(Room { bytes, length })
+        Ok(ReservedBuffer { bytes, length })
     }
 
     /// How many bytes there is room for.

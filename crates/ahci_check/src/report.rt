@@ -1,7 +1,7 @@
 //! The complaints so far, and how they are written.
 
 ghost use Rattle.std.specs.Prelude.{◌≡◌};
-ghost use Rattle.ahci_check.specs.Sheets.{long_line};
+ghost use Rattle.ahci_check.specs.Reports.{long_line};
 
 use crate::as_json::json_text;
 use crate::check_fault::CheckFault;
@@ -17,7 +17,7 @@ use streams::{Found, LINE_LIMIT, TakesLines, Writes};
 
 /// The complaints about the lines so far: those that wait for the output, how the writes went, and how the next line is judged.
 #[derive(Drop)]
-pub(crate) struct Sheet<A: Allocator> {
+pub(crate) struct Report<A: Allocator> {
     alloc: A,
     form: Form,
     judge: Judge,
@@ -26,27 +26,27 @@ pub(crate) struct Sheet<A: Allocator> {
     writes: Writes,
 }
 
-impl<A: Allocator> Model for Sheet<A> {
-    ghost use Rattle.ahci_check.specs.Sheets.{Desk};
+impl<A: Allocator> Model for Report<A> {
+    ghost use Rattle.ahci_check.specs.Reports.{Desk};
 
     ghost Value = { Desk };
 
     ghost view = { λ s. record { form = s.form; judge = s.judge; found = s.found; waiting = s.text; writes = s.writes } };
 }
 
-impl<A: Allocator + Clone> Sheet<A> {
+impl<A: Allocator + Clone> Report<A> {
     ghost use Rattle.std.specs.Prelude.{◌≡◌, ◌<◌, ◌≤◌, ◌↔◌, ◌++◌, false, true, [], length, IfErr, IfOk, IsTrue, OnErr, OnOk, Some};
     ghost use Rattle.std.specs.Io.KnownBytes.{Appends};
     ghost use Rattle.streams.specs.Ends.{with_failed_write, with_flush};
     ghost use Rattle.ahci_replay.specs.Transcript.{WritesPart};
     ghost use Rattle.streams.specs.Unread.{shown};
-    ghost use Rattle.ahci_check.specs.Sheets.{FailsTelling, Tells, next_judge, said_of, stand, told, with_put};
+    ghost use Rattle.ahci_check.specs.Reports.{FailsTelling, Tells, next_judge, said_of, stand, told, with_put};
 
     /// No line was judged; how the writes went that were before.
     pub(crate) fn new(alloc: A, text: Output<A>, form: Form, judge: Judge, writes: Writes) -> Self
         ensures { result ≡ record { form = form; judge = judge; found = false; waiting = text; writes = writes } }
     {
-        Sheet {
+        Report {
             alloc,
             form,
             judge,
@@ -170,9 +170,9 @@ fn long_line(number: u64) -> Complaint
     }
 }
 
-impl<A: Allocator + Clone, W: Write> TakesLines<W> for Sheet<A> {
+impl<A: Allocator + Clone, W: Write> TakesLines<W> for Report<A> {
     ghost use Rattle.std.specs.Prelude.{◌≡◌, []};
-    ghost use Rattle.ahci_check.specs.Sheets.{FailsJudging, Judges, stand};
+    ghost use Rattle.ahci_check.specs.Reports.{FailsJudging, Judges, stand};
 
     type Fault = CheckFault;
 

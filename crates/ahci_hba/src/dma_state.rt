@@ -2,13 +2,13 @@ use crate::ending::Ending;
 use crate::transfer::Transfer;
 use ahci_port::Window;
 use hba_command::{PrdEntry, Task};
-use hba_memory::{Fetch, Posting};
+use hba_memory::{DmaWrites, Fetch};
 use hba_regs::Slot;
 use std::alloc::{Allocator, Global};
 
 /// What the controller does with the driver's memory.
 #[derive(Drop)]
-pub(crate) enum Work<A: Allocator = Global> {
+pub(crate) enum DmaState<A: Allocator = Global> {
     /// Nothing.
     Idle,
     /// It reads the command of a slot.
@@ -18,7 +18,7 @@ pub(crate) enum Work<A: Allocator = Global> {
     /// It waits for the next block of a transfer by PIO.
     Pio(Transfer<A>),
     /// It writes a block of a transfer, which goes on so.
-    Block(Posting<A>, Transfer<A>),
+    Block(DmaWrites<A>, Transfer<A>),
     /// It writes an answer.
-    Posting(Posting<A>, Ending),
+    Writing(DmaWrites<A>, Ending),
 }

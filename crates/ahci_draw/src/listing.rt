@@ -1,4 +1,4 @@
-//! The lines of a sheet, and what a line has.
+//! The lines of a listing, and what a line has.
 
 ghost use Rattle.std.specs.Prelude.{◌≡◌, ◌<◌, ◌==◌, IfOk, IfSome, length, position, slice_index};
 ghost use Rattle.ahci_draw.specs.Lines.{is_asked, label_of, lines_from, texts, title_of};
@@ -68,11 +68,11 @@ pub(crate) fn lines_from<A: Allocator>(
     alloc: A,
     from: u64,
     to: u64,
-    sheet: &[u8],
+    listing: &[u8],
 ) -> Result<Vec<&[u8], A>, AllocError>
-    ensures { IfOk result (λ lines. texts lines.items ≡ lines_from from to sheet.now) }
+    ensures { IfOk result (λ lines. texts lines.items ≡ lines_from from to listing.now) }
 {
-    sheet
+    listing
         .split(|byte| *byte == b'\n')
         .filter(|line| is_asked(line, from, to))
         .collect(alloc)

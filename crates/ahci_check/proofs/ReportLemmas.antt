@@ -12,7 +12,7 @@ use Rattle.streams.specs.Unread.{Begins, MayFail, ReadsNoMore, found_of, unfinis
 use Rattle.streams.specs.declared.stopped.Stopped.{Stopped}
 use Rattle.streams.specs.declared.stopped.Stopped.TheVariants as stopped
 use Rattle.ahci_check.specs.Faults.{ReadsTo, WritesTo, fault_of, is_of_output}
-use Rattle.ahci_check.specs.Sheets.{AreLines, Desk, EndsCheck, FailsJudging, FailsTelling, IsChecked, Judged, Judges, Sheet, Stand, Tells, blank, judged_from, next_judge, no_line, one_more, said_of, sheet_of, stand, told, with_found, with_next, with_put}
+use Rattle.ahci_check.specs.Reports.{AreLines, Desk, EndsCheck, FailsJudging, FailsTelling, IsChecked, Judged, Judges, Report, Stand, Tells, blank, judged_from, next_judge, no_line, one_more, said_of, report_of, stand, told, with_found, with_next, with_put}
 use Rattle.ahci_check.specs.declared.check_fault.CheckFault.{CheckFault}
 use Rattle.ahci_check.specs.declared.check_fault.CheckFault.TheVariants.{OutOfMemory, Read, Write}
 use Rattle.ahci_check.specs.declared.complaint.Complaint.{Complaint}
@@ -27,49 +27,49 @@ Lines = List (List ℕ)
 
 -- ---- what is reported between two states
 
-abbrev made : Form → Judge → Bool → List ℕ → Sheet
+abbrev made : Form → Judge → Bool → List ℕ → Report
 made form judge found text = record { form = form; judge = judge; found = found; text = text }
 
--- the sheet that begins with what waits
-abbrev begun : Desk → Sheet
+-- the report that begins with what waits
+abbrev begun : Desk → Report
 begun desk = made desk.form desk.judge desk.found desk.waiting
 
--- a sheet after other text
-abbrev after : List ℕ → Sheet → Sheet
-after text sheet = made sheet.form sheet.judge sheet.found (text ++ sheet.text)
+-- a report after other text
+abbrev after : List ℕ → Report → Report
+after text report = made report.form report.judge report.found (text ++ report.text)
 
--- a sheet is reported, which begins with what waited, and some first part of it is written
-record Told (p : Stand) (sheet : Sheet) (q : Stand) : Type 0 where
-  sends : Sends p.contents q.contents sheet.text q.desk.waiting
-  form_is : q.desk.form ≡ sheet.form
-  judge_is : q.desk.judge ≡ sheet.judge
-  found_is : q.desk.found ≡ sheet.found
+-- a report is reported, which begins with what waited, and some first part of it is written
+record Told (p : Stand) (report : Report) (q : Stand) : Type 0 where
+  sends : Sends p.contents q.contents report.text q.desk.waiting
+  form_is : q.desk.form ≡ report.form
+  judge_is : q.desk.judge ≡ report.judge
+  found_is : q.desk.found ≡ report.found
 
--- such a sheet is the one that begins with what waits then, after what was written
-split : (p q : Stand) (sheet : Sheet) (h : Told p sheet q) → sheet ≡ after h.sends.sent (begun q.desk)
-split p q sheet h =
-    ap (λ x. made x sheet.judge sheet.found sheet.text) (sym h.form_is) ∙ ap (λ x. made q.desk.form x sheet.found sheet.text) (sym h.judge_is)
-    ∙ ap (λ x. made q.desk.form q.desk.judge x sheet.text) (sym h.found_is) ∙ ap (λ x. made q.desk.form q.desk.judge q.desk.found x) h.sends.said
+-- such a report is the one that begins with what waits then, after what was written
+split : (p q : Stand) (report : Report) (h : Told p report q) → report ≡ after h.sends.sent (begun q.desk)
+split p q report h =
+    ap (λ x. made x report.judge report.found report.text) (sym h.form_is) ∙ ap (λ x. made q.desk.form x report.found report.text) (sym h.judge_is)
+    ∙ ap (λ x. made q.desk.form q.desk.judge x report.text) (sym h.found_is) ∙ ap (λ x. made q.desk.form q.desk.judge q.desk.found x) h.sends.said
 
-after_next : (text : List ℕ) (sheet : Sheet) (n : ℕ) (found : Begins) → with_next (after text sheet) n found ≡ after text (with_next sheet n found)
-after_next text sheet n found =
-    ap (λ x. made sheet.form (next_judge sheet.judge found) (sheet.found || is_some (said_of sheet.judge n found)) x) (append_assoc text sheet.text (told sheet.form (said_of sheet.judge n found)))
+after_next : (text : List ℕ) (report : Report) (n : ℕ) (found : Begins) → with_next (after text report) n found ≡ after text (with_next report n found)
+after_next text report n found =
+    ap (λ x. made report.form (next_judge report.judge found) (report.found || is_some (said_of report.judge n found)) x) (append_assoc text report.text (told report.form (said_of report.judge n found)))
 
-after_all : (text : List ℕ) (sheet : Sheet) (n : ℕ) (lines : Lines) → judged_from n (after text sheet) lines ≡ after text (judged_from n sheet lines)
-after_all text sheet n [] = refl
-after_all text sheet n (line ∷ more) =
-    ap (λ s. judged_from (n + 1) s more) (after_next text sheet n (whole line)) ∙ after_all text (with_next sheet n (whole line)) (n + 1) more
+after_all : (text : List ℕ) (report : Report) (n : ℕ) (lines : Lines) → judged_from n (after text report) lines ≡ after text (judged_from n report lines)
+after_all text report n [] = refl
+after_all text report n (line ∷ more) =
+    ap (λ s. judged_from (n + 1) s more) (after_next text report n (whole line)) ∙ after_all text (with_next report n (whole line)) (n + 1) more
 
 -- what comes is reported
 step : (p q : Stand) (n : ℕ) (found : Begins) → Judges p n found q → Told p (with_next (begun p.desk) n found) q
 step p q n found h = record { sends = h.sends; form_is = h.form_same; judge_is = h.judge_is; found_is = h.found_is }
 
 -- more is reported
-more_told : (p q r : Stand) (sheet : Sheet) (F : Sheet → Sheet) → ((text : List ℕ) (s : Sheet) → F (after text s) ≡ after text (F s)) → Told p sheet q → Told q (F (begun q.desk)) r
-    → Told p (F sheet) r
-more_told p q r sheet F moves h k =
+more_told : (p q r : Stand) (report : Report) (F : Report → Report) → ((text : List ℕ) (s : Report) → F (after text s) ≡ after text (F s)) → Told p report q → Told q (F (begun q.desk)) r
+    → Told p (F report) r
+more_told p q r report F moves h k =
     let sent = h.sends.sent in
-    let same = ap F (split p q sheet h) ∙ moves sent (begun q.desk) in
+    let same = ap F (split p q report h) ∙ moves sent (begun q.desk) in
     subst (λ s. Told p s r) (sym same)
     (record {
       sends = record {
@@ -156,11 +156,11 @@ all_told f _ b n lines (reading.more_input s k t more u takes others) =
 abbrev IsNew : Stand → Type 0
 IsNew p = (p.desk.found ≡ false) × (p.desk.waiting ≡ [])
 
-new_sheet : (p : Stand) → IsNew p → begun p.desk ≡ blank p.desk.form p.desk.judge
-new_sheet p new = ap (λ x. made p.desk.form p.desk.judge x p.desk.waiting) new.0 ∙ ap (λ x. made p.desk.form p.desk.judge false x) new.1
+new_report : (p : Stand) → IsNew p → begun p.desk ≡ blank p.desk.form p.desk.judge
+new_report p new = ap (λ x. made p.desk.form p.desk.judge x p.desk.waiting) new.0 ∙ ap (λ x. made p.desk.form p.desk.judge false x) new.1
 
 first_judged : {S : Type 0} (f : S → Stand) (P : Lines → Known → List ℕ → S → Type 0) (Q : Lines → Known → List ℕ → Type 0) (r : Known) (a : S) → IsNew (f a)
-    → ((lines : Lines) (remaining : Known) (rest : List ℕ) (to : S) → Told (f a) (sheet_of (f a).desk.form (f a).desk.judge lines) (f to) → P lines remaining rest to → Q lines remaining rest)
+    → ((lines : Lines) (remaining : Known) (rest : List ℕ) (to : S) → Told (f a) (report_of (f a).desk.form (f a).desk.judge lines) (f to) → P lines remaining rest to → Q lines remaining rest)
     → TakenFirst (Goes f) r a P → Judged r Q
 first_judged f P Q r a new g h = record {
   lines = h.lines;
@@ -168,14 +168,14 @@ first_judged f P Q r a new g h = record {
   remaining = h.remaining;
   own = own f a h.to 1 h.lines h.taken;
   consumed = h.consumed;
-  holds = g h.lines h.remaining h.rest h.to (subst (λ s. Told (f a) (judged_from 1 s h.lines) (f h.to)) (new_sheet (f a) new) (all_told f a h.to 1 h.lines h.taken)) h.holds;
+  holds = g h.lines h.remaining h.rest h.to (subst (λ s. Told (f a) (judged_from 1 s h.lines) (f h.to)) (new_report (f a) new) (all_told f a h.to 1 h.lines h.taken)) h.holds;
 }
 
 -- and what comes after them
-found_told : (p q r : Stand) (form : Form) (judge : Judge) (lines : Lines) (found : Begins) → Told p (sheet_of form judge lines) q → Judges q (length lines + 1) found r
+found_told : (p q r : Stand) (form : Form) (judge : Judge) (lines : Lines) (found : Begins) → Told p (report_of form judge lines) q → Judges q (length lines + 1) found r
     → Told p (with_found form judge lines found) r
 found_told p q r form judge lines found h takes =
-    more_told p q r (sheet_of form judge lines) (λ x. with_next x (length lines + 1) found) (λ text x. after_next text x (length lines + 1) found) h (step q r (length lines + 1) found takes)
+    more_told p q r (report_of form judge lines) (λ x. with_next x (length lines + 1) found) (λ text x. after_next text x (length lines + 1) found) h (step q r (length lines + 1) found takes)
 
 -- ---- a whole input
 
@@ -217,13 +217,13 @@ Stays p q = (q.contents ≡ p.contents) × (q.desk.waiting ≡ p.desk.waiting) �
 stays : (p q : Stand) → q ≡ p → Stays p q
 stays p q same = (ap (λ (x : Stand). x.contents) same, ap (λ (x : Stand). x.desk.waiting) same, ap (λ (x : Stand). x.desk.writes) same)
 
-stays_written : (p q z : Stand) (d : Known) (sheet : Sheet) → Told p sheet q → Stays q z → Appends z.contents d z.desk.waiting → Appends p.contents d sheet.text
-stays_written p q z d sheet told same sent =
-    sent_all p.contents q.contents d sheet.text q.desk.waiting told.sends (subst (λ k. Appends k d q.desk.waiting) same.0 (subst (Appends z.contents d) same.1 sent))
+stays_written : (p q z : Stand) (d : Known) (report : Report) → Told p report q → Stays q z → Appends z.contents d z.desk.waiting → Appends p.contents d report.text
+stays_written p q z d report told same sent =
+    sent_all p.contents q.contents d report.text q.desk.waiting told.sends (subst (λ k. Appends k d q.desk.waiting) same.0 (subst (Appends z.contents d) same.1 sent))
 
-stays_part : (p q z : Stand) (d : Known) (sheet : Sheet) → Told p sheet q → Stays q z → WritesPart z.contents d z.desk.waiting → WritesPart p.contents d sheet.text
-stays_part p q z d sheet told same part =
-    sent_part p.contents q.contents d sheet.text q.desk.waiting told.sends (subst (λ k. WritesPart k d q.desk.waiting) same.0 (subst (WritesPart z.contents d) same.1 part))
+stays_part : (p q z : Stand) (d : Known) (report : Report) → Told p report q → Stays q z → WritesPart z.contents d z.desk.waiting → WritesPart p.contents d report.text
+stays_part p q z d report told same part =
+    sent_part p.contents q.contents d report.text q.desk.waiting told.sends (subst (λ k. WritesPart k d q.desk.waiting) same.0 (subst (WritesPart z.contents d) same.1 part))
 
 -- why a check ends after lines that were judged
 abbrev Why : CheckFault → Known → Lines → Known → List ℕ → Type 0
@@ -248,7 +248,7 @@ stopped_before f (stopped.Taker Write) r s a b other h = absurd (cc)
 stopped_before f stopped.OutOfMemory r s a b other h = first_none _ r a (stays (f a) (f b) (ap f h.1), sym h.0)
 
 ended : (form : Form) (judge : Judge) (fault : CheckFault) (r s c d : Known)
-    → Judged r (λ lines remaining rest. Appends c d (sheet_of form judge lines).text × Why fault s lines remaining rest) → EndsCheck form judge r s c d fault
+    → Judged r (λ lines remaining rest. Appends c d (report_of form judge lines).text × Why fault s lines remaining rest) → EndsCheck form judge r s c d fault
 ended form judge Read r s c d h =
     record { lines = h.lines; rest = h.rest; remaining = h.remaining; own = h.own; consumed = h.consumed; holds = (h.holds.1.0, h.holds.1.1, h.holds.0) }
 ended form judge OutOfMemory r s c d h =
@@ -267,14 +267,14 @@ fault_part_checked f stop r s d a b new other h part =
     first_judged f _ _ r a new (λ lines remaining rest to so_far holds. (no_more (fault_of stop) s lines remaining rest holds.1, inl (stays_part (f a) (f to) (f b) d _ so_far holds.0 part))) (stopped_before f stop r s a b other h)
 
 -- the output has failed on what there is to say of what comes
-next_part : (p q : Stand) (d : Known) (sheet : Sheet) (n : ℕ) (found : Begins) → Told p sheet q → WritesPart q.contents d (with_next (begun q.desk) n found).text
-    → WritesPart p.contents d (with_next sheet n found).text
-next_part p q d sheet n found told part =
-    sent_part p.contents q.contents d (with_next sheet n found).text (with_next (begun q.desk) n found).text
+next_part : (p q : Stand) (d : Known) (report : Report) (n : ℕ) (found : Begins) → Told p report q → WritesPart q.contents d (with_next (begun q.desk) n found).text
+    → WritesPart p.contents d (with_next report n found).text
+next_part p q d report n found told part =
+    sent_part p.contents q.contents d (with_next report n found).text (with_next (begun q.desk) n found).text
     (record {
       sent = told.sends.sent;
       written = told.sends.written;
-      said = ap (λ (s : Sheet). s.text) (ap (λ s. with_next s n found) (split p q sheet told) ∙ after_next told.sends.sent (begun q.desk) n found);
+      said = ap (λ (s : Report). s.text) (ap (λ s. with_next s n found) (split p q report told) ∙ after_next told.sends.sent (begun q.desk) n found);
     }) part
 
 pub output_failed : {S : Type 0} (f : S → Stand) (stop : Stopped CheckFault) (r s : Known) (a b : S) → IsNew (f a) → is_of_output (fault_of stop) ≡ true
@@ -287,7 +287,7 @@ output_failed f (stopped.Taker Write) r s a b new is h =
       inr (
         found,
         subst (λ k. Comes k rest found) (sym holds.0) holds.1.1,
-        next_part (f a) (f to) (f b).contents (sheet_of (f a).desk.form (f a).desk.judge lines) (length lines + 1) found so_far holds.1.2.0,
+        next_part (f a) (f to) (f b).contents (report_of (f a).desk.form (f a).desk.judge lines) (length lines + 1) found so_far holds.1.2.0,
       ),
     )) h
 output_failed f (stopped.Taker Read) r s a b new is h = absurd (cc)

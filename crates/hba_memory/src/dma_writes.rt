@@ -8,24 +8,24 @@ use std::marker::Model;
 /// What an answer of the device writes into the driver's memory, in this order: a FIS, the command's data, PRDBC, and a FIS. Contracts
 /// see the writes that are still to be made.
 #[derive(Drop)]
-pub struct Posting<A: Allocator = Global> {
+pub struct DmaWrites<A: Allocator = Global> {
     before: Option<SmallPut>,
     content: Scatter<A>,
     count: Option<SmallPut>,
     after: Option<SmallPut>,
 }
 
-impl<A: Allocator> Model for Posting<A> {
-    ghost use Rattle.hba_memory.specs.Posting.{PostingView, listed};
+impl<A: Allocator> Model for DmaWrites<A> {
+    ghost use Rattle.hba_memory.specs.DmaWrites.{DmaWritesView, listed};
 
-    ghost Value = { PostingView };
+    ghost Value = { DmaWritesView };
 
     ghost view = { λ p. record { before = listed p.before; content = p.content; count = listed p.count; after = listed p.after } };
 }
 
-impl<A: Allocator> Posting<A> {
+impl<A: Allocator> DmaWrites<A> {
     ghost use Rattle.std.specs.Prelude.{◌≡◌, ◌↔◌, [], IsTrue};
-    ghost use Rattle.hba_memory.specs.Posting.{advanced, listed, remaining, without_fises};
+    ghost use Rattle.hba_memory.specs.DmaWrites.{advanced, listed, remaining, without_fises};
     ghost use Rattle.hba_memory.specs.Runs.{first_put};
 
     /// A FIS, data, PRDBC and a FIS; each may be left out.
@@ -40,7 +40,7 @@ impl<A: Allocator> Posting<A> {
         ensures count { result.count ≡ listed count }
         ensures after { result.after ≡ listed after }
     {
-        Posting {
+        DmaWrites {
             before,
             content,
             count,

@@ -1,7 +1,7 @@
 use Rattle.std.proofs.Common.{◌≤◌, length, sym, arith}
 use Rattle.std.proofs.Math.ListN.{drop_of_length-le}
 use Rattle.std.proofs.lemmas.List.{take_rest}
-use Rattle.ahci_draw.proofs.sheet.title_of.Goals as goal
+use Rattle.ahci_draw.proofs.listing.title_of.Goals as goal
 
 pub returns-then-line-lt-TITLE : goal.returns-then-line-lt-TITLE
 returns-then-line-lt-TITLE c =

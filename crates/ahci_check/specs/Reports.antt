@@ -18,14 +18,14 @@ use Rattle.ahci_check.specs.declared.judge.Judge.{Judge}
 use Rattle.ahci_check.specs.declared.rule.Rule.TheVariants.{Language}
 
 -- the form of complaints, how the next line is judged, whether there was a complaint, and the text of all complaints
-pub record Sheet : Type 0 where
+pub record Report : Type 0 where
   pub form : Form
   pub judge : Judge
   pub found : Bool
   pub text : List ℕ
 
 -- before the first line, which is judged so
-abbrev pub blank : Form → Judge → Sheet
+abbrev pub blank : Form → Judge → Report
 blank form judge = record { form = form; judge = judge; found = false; text = [] }
 
 -- a complaint in a form, without a line feed
@@ -39,9 +39,9 @@ told form None = []
 told form (Some c) = complaint_as form c ++ 10 ∷ []
 
 -- what there is to say of a line is put down
-abbrev pub with_complaint : Sheet → Option Complaint → Judge → Sheet
-with_complaint sheet complaint judge =
-    record { form = sheet.form; judge = judge; found = sheet.found || is_some complaint; text = sheet.text ++ told sheet.form complaint }
+abbrev pub with_complaint : Report → Option Complaint → Judge → Report
+with_complaint report complaint judge =
+    record { form = report.form; judge = judge; found = report.found || is_some complaint; text = report.text ++ told report.form complaint }
 
 -- the complaint about a line of more than 4,096 bytes, at the first byte after these
 abbrev pub long_line : ℕ → Complaint
@@ -59,21 +59,21 @@ next_judge judge (whole line) = judge_after judge line
 next_judge judge found = judge
 
 -- what comes is judged
-abbrev pub with_next : Sheet → ℕ → Begins → Sheet
-with_next sheet number found = with_complaint sheet (said_of sheet.judge number found) (next_judge sheet.judge found)
+abbrev pub with_next : Report → ℕ → Begins → Report
+with_next report number found = with_complaint report (said_of report.judge number found) (next_judge report.judge found)
 
 -- lines are judged, the first of which has the given number
-abbrev pub judged_from : ℕ → Sheet → List (List ℕ) → Sheet
-judged_from number sheet [] = sheet
-judged_from number sheet (line ∷ more) = judged_from (number + 1) (with_next sheet number (whole line)) more
+abbrev pub judged_from : ℕ → Report → List (List ℕ) → Report
+judged_from number report [] = report
+judged_from number report (line ∷ more) = judged_from (number + 1) (with_next report number (whole line)) more
 
--- the sheet of the first lines of an input
-abbrev pub sheet_of : Form → Judge → List (List ℕ) → Sheet
-sheet_of form judge lines = judged_from 1 (blank form judge) lines
+-- the report of the first lines of an input
+abbrev pub report_of : Form → Judge → List (List ℕ) → Report
+report_of form judge lines = judged_from 1 (blank form judge) lines
 
 -- and with what comes after them
-abbrev pub with_found : Form → Judge → List (List ℕ) → Begins → Sheet
-with_found form judge lines found = with_next (sheet_of form judge lines) (length lines + 1) found
+abbrev pub with_found : Form → Judge → List (List ℕ) → Begins → Report
+with_found form judge lines found = with_next (report_of form judge lines) (length lines + 1) found
 
 -- ---- a whole input
 
@@ -102,10 +102,10 @@ IsChecked form judge r s c d found =
 abbrev pub EndsCheck : Form → Judge → Option (List ℕ) → Option (List ℕ) → Option (List ℕ) → Option (List ℕ) → CheckFault → Type 0
 EndsCheck form judge r s c d fault.Read =
     Judged r (λ lines remaining rest. (found_of rest ≡ unfinished) × MayFail (length (with_feeds lines ++ rest)) remaining s
-    × Appends c d (sheet_of form judge lines).text)
-EndsCheck form judge r s c d fault.OutOfMemory = Judged r (λ lines remaining rest. (remaining ≡ s) × Appends c d (sheet_of form judge lines).text)
+    × Appends c d (report_of form judge lines).text)
+EndsCheck form judge r s c d fault.OutOfMemory = Judged r (λ lines remaining rest. (remaining ≡ s) × Appends c d (report_of form judge lines).text)
 EndsCheck form judge r s c d fault.Write =
-    Judged r (λ lines remaining rest. ReadsNoMore (length (with_feeds lines ++ rest)) rest remaining s × (WritesPart c d (sheet_of form judge lines).text
+    Judged r (λ lines remaining rest. ReadsNoMore (length (with_feeds lines ++ rest)) rest remaining s × (WritesPart c d (report_of form judge lines).text
     ⊎ ((found : Begins) × Comes remaining rest found × WritesPart c d (with_found form judge lines found).text)))
 
 -- ---- as the lines come

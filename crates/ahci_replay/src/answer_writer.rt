@@ -6,7 +6,7 @@ use std::alloc::{AllocError, Allocator};
 
 /// What writes the answers of a script. Contracts see the text as a function of the number and the text of the line that has the
 /// command, of what the answer says, of the port that the command has found and of the one that it has left.
-pub trait Teller<A: Allocator> {
+pub trait AnswerWriter<A: Allocator> {
     ghost use Rattle.std.specs.Prelude.{◌≡◌, ◌++◌, OnErr, OnOk, Option};
     ghost use Rattle.std.specs.Option.{option_copied};
     ghost use Rattle.ahci_port.specs.PortView.{PortView};
@@ -48,7 +48,7 @@ pub trait Teller<A: Allocator> {
 #[derive(Drop)]
 pub struct AnswersAlone;
 
-impl<A: Allocator> Teller<A> for AnswersAlone {
+impl<A: Allocator> AnswerWriter<A> for AnswersAlone {
     ghost use Rattle.ahci_replay.specs.Transcript.{answers_alone};
 
     type Before = ();

@@ -1,4 +1,4 @@
--- What a script's answers add to the sheet, from which the picture is made.
+-- What a script's answers add to the listing, from which the picture is made.
 use Rattle.std.specs.Prelude.{ℕ, ◌-◌, List, [], ◌∷◌, ◌++◌, max, Option, None, Some}
 use Rattle.ahci_port.specs.PortView.{PortView, next_number}
 use Rattle.ahci_replay.specs.Transcript.{Telling}
@@ -21,5 +21,5 @@ added_between before None = []
 added_between before (Some port) = added_on (mark_of before) port
 
 -- the text for an answer: each line of an entry begins with a line feed, and one more comes after them
-abbrev pub sheet_text : Telling
-sheet_text number line said before after = added_between before after ++ 10 ∷ []
+abbrev pub listing_text : Telling
+listing_text number line said before after = added_between before after ++ 10 ∷ []
