@@ -35,7 +35,7 @@ pub data DmaView : Type 0 where
   Block : DmaWritesView → TransferView → DmaView
   Writing : DmaWritesView → Ending → DmaView
 
-abbrev pub dma_of : {A : _} → Work A → DmaView
+abbrev pub dma_of : {A : _} → DmaState A → DmaView
 dma_of state.Idle = Idle
 dma_of (state.Fetching slot fetch) = Fetching slot fetch
 dma_of (state.Served slot t window list) = Served slot t window list.items
