@@ -16,7 +16,7 @@ use std::alloc::Allocator;
 pub(crate) fn answer_line<T: AnswerWriter<A>, A: Allocator + Copy>(
     session: &mut Session<A>,
     output: &mut Output<A>,
-    writer: &T,
+    answers: &T,
     number: u64,
     line: &[u8],
 ) -> Result<(), ScriptFault>
@@ -28,7 +28,7 @@ pub(crate) fn answer_line<T: AnswerWriter<A>, A: Allocator + Copy>(
     match read_line(line) {
         Err(_) => Err(ScriptFault::Line(number)),
         Ok(Line::Skip) => Ok(()),
-        Ok(Line::Run(command)) => { answer_command(session, output, writer, number, line, command) }
+        Ok(Line::Run(command)) => { answer_command(session, output, answers, number, line, command) }
     }
 }
 
@@ -36,7 +36,7 @@ pub(crate) fn answer_line<T: AnswerWriter<A>, A: Allocator + Copy>(
 fn answer_command<T: AnswerWriter<A>, A: Allocator + Copy>(
     session: &mut Session<A>,
     output: &mut Output<A>,
-    writer: &T,
+    answers: &T,
     number: u64,
     line: &[u8],
     command: ScriptCommand<'_>,
@@ -48,9 +48,9 @@ fn answer_command<T: AnswerWriter<A>, A: Allocator + Copy>(
     ensures fault { IfErr result (IsCommandFault session.old command.entry number) }
     ensures wrong { is_in_place session.old command.entry ≡ false → result ≡ Err (ScriptFault.Line number) }
 {
-    let before = writer.look(session.port());
+    let before = answers.look(session.port());
     match session.run(command) {
-        Ok(answer) => Ok(writer.tell(number, line, before, &answer, session.port(), output)?),
+        Ok(answer) => Ok(answers.tell(number, line, before, &answer, session.port(), output)?),
         Err(Unanswered::OutOfPlace) => Err(ScriptFault::Line(number)),
         Err(Unanswered::OutOfMemory) => Err(ScriptFault::OutOfMemory),
     }

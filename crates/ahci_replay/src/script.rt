@@ -15,7 +15,7 @@ pub(crate) struct Script<'t, T, A: Allocator> {
     pub(crate) output: Output<A>,
     pub(crate) writes: Writes,
     session: Session<A>,
-    writer: &'t T,
+    answers: &'t T,
 }
 
 impl<'t, T: AnswerWriter<A>, A: Allocator + Copy> Script<'t, T, A> {
@@ -24,14 +24,14 @@ impl<'t, T: AnswerWriter<A>, A: Allocator + Copy> Script<'t, T, A> {
     ghost use Rattle.ahci_replay.specs.Transcript.{Answers, RefusesLine};
 
     /// A script of which nothing came yet, and how the writes went that were before it.
-    pub(crate) fn new(alloc: A, writer: &'t T, writes: Writes) -> Self
+    pub(crate) fn new(alloc: A, answers: &'t T, writes: Writes) -> Self
         ensures { (result.output ≡ []) × ((result.session ≡ None) × (result.writes ≡ writes)) }
     {
         Script {
             output: Output::new(alloc),
             writes,
             session: Session::new(alloc),
-            writer,
+            answers,
         }
     }
 
@@ -51,7 +51,7 @@ impl<'t, T: AnswerWriter<A>, A: Allocator + Copy> Script<'t, T, A> {
         answer_line(
             &mut self.session,
             &mut self.output,
-            self.writer,
+            self.answers,
             number,
             line,
         )?;

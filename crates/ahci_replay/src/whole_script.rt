@@ -35,11 +35,11 @@ pub fn replay<R: Read, W: Write, A: Allocator + Copy>(
     )
 }
 
-/// The same, with what the writer says of each command in the place of its answer. `reads` and `writes` record how the reads and
+/// The same, with what `answers` writes of each command in the place of its answer. `reads` and `writes` record how the reads and
 /// writes went: where none failed, what was written is flushed, also at a fault of the script.
 pub fn replay_with<T: AnswerWriter<A>, R: Read, W: Write, A: Allocator + Copy>(
     alloc: A,
-    writer: &T,
+    answers: &T,
     reader: &mut R,
     reads: &mut Reads,
     writer: &mut W,
@@ -55,7 +55,7 @@ pub fn replay_with<T: AnswerWriter<A>, R: Read, W: Write, A: Allocator + Copy>(
     ensures unfailed { OnOk result (reads.new.failed ≡ reads.old.failed) }
     ensures reads { IfErr result (ReadsTo reads.old reads.new) }
 {
-    let mut script = Script::new(alloc, writer, mem::replace(writes, Writes::new()));
+    let mut script = Script::new(alloc, answers, mem::replace(writes, Writes::new()));
     let outcome = replay_script(alloc, &mut script, reader, reads, writer);
     *writes = script.writes;
     outcome
