@@ -2,7 +2,7 @@
 use Rattle.std.proofs.Common.{◌≡◌, ◌≢◌, ℕ, zero, suc, ◌+◌, ◌*◌, ◌/◌, ◌%◌, ◌^◌, ◌<◌, Bool, true, false, not, ◌&&◌, ◌||◌, if◌then◌else◌, List, nat_eq, refl, ◌∙◌, ap, arith}
 use Rattle.std.specs.Int.{bit_at}
 use Rattle.std.proofs.lemmas.Nat.Bits.{bit_at_cat_high, bit_at_cat_low}
-use Rattle.word_bits.specs.Places.{bits, has_place, intersection, no_places, only_below}
+use Rattle.word_bits.specs.Places.{bits, has_place, intersection, no_places, only_below, union}
 use Rattle.word_bits.proofs.PlacesLemmas.{has_place-union}
 use Rattle.word_bits.proofs.BitsLemmas.{has_place-bits, bits-word_of}
 use Rattle.hba_regs.specs.HbaState.{HbaPort, HbaState, HasWords, IsLawful, IsPowered, asked_link, enables, reset_with}
@@ -128,45 +128,39 @@ reset_kept : (b : Bool) (s t : HbaState) (P : HbaState → Type 0) → (if b the
 reset_kept true s t P e h = cc
 reset_kept false s t P e h = h
 
-pub sact_stays : (s : HbaState) (value : ℕ) (r : Register) → consequence_of s value r ≡ Nothing → (i : ℕ) → has_place s.port.sact i ≡ true
-    → has_place (changed s value r).port.sact i ≡ true
-sact_stays s value Ghc e i h =
-    reset_kept (has_place (bits value) 0) (reset_with s.port.present s.port.capabilities s.port.clb s.port.fb) (record s { ghc_ie = has_place (bits value) 1 }) (λ t. has_place t.port.sact i ≡ true) e h
-sact_stays s value PxClb e i h = either s.port.st s.port _ (λ p. has_place p.sact i ≡ true) h h
-sact_stays s value PxClbu e i h =
-    either s.port.capabilities.s64a _ s.port (λ p. has_place p.sact i ≡ true) (either s.port.st s.port _ (λ p. has_place p.sact i ≡ true) h h) h
-sact_stays s value PxFb e i h = either s.port.fre s.port _ (λ p. has_place p.sact i ≡ true) h h
-sact_stays s value PxFbu e i h =
-    either s.port.capabilities.s64a _ s.port (λ p. has_place p.sact i ≡ true) (either s.port.fre s.port _ (λ p. has_place p.sact i ≡ true) h h) h
-sact_stays s value PxCmd e i h =
-    let d = not_reset (spins_up s.port value && is_up s.port.link) (s.port.st && not (has_place (bits value) 0)) e in
-    ap (λ x. has_place x i) (powered_kept (commanded_by s.port value) (has_place (bits value) 1) (has_place (bits value) 26) (has_place (bits value) 27) d.0).0
-    ∙ sent_on (s.port.st && not (has_place (bits value) 0)) s.port.sact i d.1 h
-sact_stays s value PxSctl e i h =
-    ap (λ x. has_place x i) (linked (record s.port { sctl = value % 2 ^ 12 }) s.port.link (asked_link (value % 2 ^ 4) s.port.present s.port.sud s.port.link) e).0 ∙ h
-sact_stays s value PxSact e i h = either s.port.st _ s.port (λ p. has_place p.sact i ≡ true) (has_place-union s.port.sact (only_below s.port.capabilities.ncs (bits value)) i ∙ ap (λ x. x || has_place (only_below s.port.capabilities.ncs (bits value)) i) h) h
-sact_stays s value PxCi e i h = either s.port.st _ s.port (λ p. has_place p.sact i ≡ true) h h
-sact_stays s value r e i h = h
+-- the commands of one port are among those of another
+abbrev pub KeepsCommands : HbaPort → HbaPort → Type 0
+KeepsCommands p q = (i : ℕ) → (has_place p.sact i ≡ true → has_place q.sact i ≡ true) × (has_place p.ci i ≡ true → has_place q.ci i ≡ true)
 
-pub ci_stays : (s : HbaState) (value : ℕ) (r : Register) → consequence_of s value r ≡ Nothing → (i : ℕ) → has_place s.port.ci i ≡ true
-    → has_place (changed s value r).port.ci i ≡ true
-ci_stays s value Ghc e i h =
-    reset_kept (has_place (bits value) 0) (reset_with s.port.present s.port.capabilities s.port.clb s.port.fb) (record s { ghc_ie = has_place (bits value) 1 }) (λ t. has_place t.port.ci i ≡ true) e h
-ci_stays s value PxClb e i h = either s.port.st s.port _ (λ p. has_place p.ci i ≡ true) h h
-ci_stays s value PxClbu e i h =
-    either s.port.capabilities.s64a _ s.port (λ p. has_place p.ci i ≡ true) (either s.port.st s.port _ (λ p. has_place p.ci i ≡ true) h h) h
-ci_stays s value PxFb e i h = either s.port.fre s.port _ (λ p. has_place p.ci i ≡ true) h h
-ci_stays s value PxFbu e i h =
-    either s.port.capabilities.s64a _ s.port (λ p. has_place p.ci i ≡ true) (either s.port.fre s.port _ (λ p. has_place p.ci i ≡ true) h h) h
-ci_stays s value PxCmd e i h =
-    let d = not_reset (spins_up s.port value && is_up s.port.link) (s.port.st && not (has_place (bits value) 0)) e in
-    ap (λ x. has_place x i) (powered_kept (commanded_by s.port value) (has_place (bits value) 1) (has_place (bits value) 26) (has_place (bits value) 27) d.0).1
-    ∙ sent_on (s.port.st && not (has_place (bits value) 0)) s.port.ci i d.1 h
-ci_stays s value PxSctl e i h =
-    ap (λ x. has_place x i) (linked (record s.port { sctl = value % 2 ^ 12 }) s.port.link (asked_link (value % 2 ^ 4) s.port.present s.port.sud s.port.link) e).1 ∙ h
-ci_stays s value PxSact e i h = either s.port.st _ s.port (λ p. has_place p.ci i ≡ true) h h
-ci_stays s value PxCi e i h = either s.port.st _ s.port (λ p. has_place p.ci i ≡ true) (has_place-union s.port.ci (only_below s.port.capabilities.ncs (bits value)) i ∙ ap (λ x. x || has_place (only_below s.port.capabilities.ncs (bits value)) i) h) h
-ci_stays s value r e i h = h
+keeps_own : (p : HbaPort) → KeepsCommands p p
+keeps_own p i = (λ h. h, λ h. h)
+
+gained : (n : ℕ) (s t : List Bool) (i : ℕ) → has_place s i ≡ true → has_place (union s (only_below n t)) i ≡ true
+gained n s t i h = has_place-union s (only_below n t) i ∙ ap (λ x. x || has_place (only_below n t) i) h
+
+pub commands_stay : (s : HbaState) (value : ℕ) (r : Register) → consequence_of s value r ≡ Nothing → KeepsCommands s.port (changed s value r).port
+commands_stay s value Ghc e =
+    reset_kept (has_place (bits value) 0) (reset_with s.port.present s.port.capabilities s.port.clb s.port.fb) (record s { ghc_ie = has_place (bits value) 1 })
+    (λ t. KeepsCommands s.port t.port) e (keeps_own s.port)
+commands_stay s value PxClb e = either s.port.st s.port _ (KeepsCommands s.port) (keeps_own s.port) (keeps_own s.port)
+commands_stay s value PxClbu e =
+    either s.port.capabilities.s64a _ s.port (KeepsCommands s.port) (either s.port.st s.port _ (KeepsCommands s.port) (keeps_own s.port) (keeps_own s.port)) (keeps_own s.port)
+commands_stay s value PxFb e = either s.port.fre s.port _ (KeepsCommands s.port) (keeps_own s.port) (keeps_own s.port)
+commands_stay s value PxFbu e =
+    either s.port.capabilities.s64a _ s.port (KeepsCommands s.port) (either s.port.fre s.port _ (KeepsCommands s.port) (keeps_own s.port) (keeps_own s.port)) (keeps_own s.port)
+commands_stay s value PxCmd e =
+    let stops = s.port.st && not (has_place (bits value) 0) in
+    let d = not_reset (spins_up s.port value && is_up s.port.link) stops e in
+    let kept = powered_kept (commanded_by s.port value) (has_place (bits value) 1) (has_place (bits value) 26) (has_place (bits value) 27) d.0 in
+    λ i. (λ h. ap (λ x. has_place x i) kept.0 ∙ sent_on stops s.port.sact i d.1 h, λ h. ap (λ x. has_place x i) kept.1 ∙ sent_on stops s.port.ci i d.1 h)
+commands_stay s value PxSctl e =
+    let kept = linked (record s.port { sctl = value % 2 ^ 12 }) s.port.link (asked_link (value % 2 ^ 4) s.port.present s.port.sud s.port.link) e in
+    λ i. (λ h. ap (λ x. has_place x i) kept.0 ∙ h, λ h. ap (λ x. has_place x i) kept.1 ∙ h)
+commands_stay s value PxSact e =
+    either s.port.st _ s.port (KeepsCommands s.port) (λ i. (gained s.port.capabilities.ncs s.port.sact (bits value) i, λ h. h)) (keeps_own s.port)
+commands_stay s value PxCi e =
+    either s.port.st _ s.port (KeepsCommands s.port) (λ i. (λ h. h, gained s.port.capabilities.ncs s.port.ci (bits value) i)) (keeps_own s.port)
+commands_stay s value r e = keeps_own s.port
 
 -- ---- commands that are dropped
 

@@ -1,15 +1,16 @@
 -- Lemmas on what the registers of a port keep: the bits of PxIS that are kept, and no command while the port is stopped.
-use Rattle.std.proofs.Common.{◌≡◌, ◌≢◌, ℕ, Bool, true, false, not, nat_eq, ◌&&◌, ◌||◌, if◌then◌else◌, List, sym, ◌∙◌, refl, ap, subst, arith, ⊎_elim}
+use Rattle.std.proofs.Common.{◌≡◌, ◌≢◌, ℕ, ◌%◌, ◌^◌, Bool, true, false, not, nat_eq, ◌&&◌, ◌||◌, if◌then◌else◌, List, sym, ◌∙◌, refl, ap, subst, arith, ⊎_elim}
 use Rattle.std.proofs.lemmas.Bool.{cases_eq}
 use Rattle.word_bits.specs.Places.{bits, has_place, no_places, with_place, without_place, intersection, minus, only_below, union}
 use Rattle.std.specs.Int.Bits.{and_zero_l}
 use Rattle.word_bits.proofs.PlacesLemmas.{same_sets, length-intersection, has_place-intersection, has_place-no_places, has_place-with_other, has_place-minus, has_place-only_below_past, has_place-union, has_place-without_other, has_place-without_same, minus-none, without_place-none}
 use Rattle.word_bits.proofs.BitsLemmas.{bits_and, bits_zero}
-use Rattle.hba_regs.specs.HbaState.{IsBelow, IsKept, IsPowered, asked_link, enables, spun_link}
+use Rattle.hba_regs.specs.HbaState.{HbaPort, IsBelow, IsKept, IsLawful, IsPowered, asked_link, enables, spun_link}
 use Rattle.hba_regs.specs.CapFields.{CapFields}
 use Rattle.hba_regs.specs.Interrupts.{raised, place_of}
 use Rattle.hba_regs.specs.PortStates.{ended_by_signature}
 use Rattle.hba_regs.specs.Writing.{remaining}
+use Rattle.hba_regs.specs.declared.signature.Signature.{Signature}
 use Rattle.hba_regs.specs.declared.soft_reset.SoftReset.{SoftReset}
 use Rattle.hba_regs.specs.declared.soft_reset.SoftReset.TheVariants.{Off, Held, Ending}
 use Rattle.hba_regs.specs.declared.link.Link.{Link}
@@ -221,3 +222,40 @@ intersection-again v m =
 
 pub enabled_again : (v r : List Bool) → r ≡ intersection v enables → intersection r enables ≡ r
 enabled_again v r e = ap (λ x. intersection x enables) e ∙ intersection-again v enables ∙ sym e
+
+-- ---- a port that stays lawful
+
+-- no command comes, whatever becomes of the device
+pub lawful_commands : (p : HbaPort) (sts err sig : ℕ) (signature : Signature) (soft : SoftReset) (sact ci : List Bool)
+    → (p.sact ≡ no_places → sact ≡ no_places) → (p.ci ≡ no_places → ci ≡ no_places) → IsBelow p.capabilities.ncs sact → IsBelow p.capabilities.ncs ci
+    → IsLawful p → IsLawful (record p { sts = sts; err = err; sig = sig; signature = signature; soft = soft; sact = sact; ci = ci })
+lawful_commands p sts err sig signature soft sact ci none none' below below' h = record {
+  capable = h.capable;
+  clb = h.clb;
+  fb = h.fb;
+  reach = h.reach;
+  is = h.is;
+  ie = h.ie;
+  stopped = λ e. (none (h.stopped e).0, none' (h.stopped e).1);
+  sact = below;
+  ci = below';
+  power = h.power;
+  sctl = h.sctl;
+  link = h.link;
+  present = h.present;
+  ccs = h.ccs;
+  speed = h.speed;
+  first = h.first;
+}
+
+-- other interrupts, whether or not the port halts
+pub lawful_interrupts : (p : HbaPort) (is ie : List Bool) (halted : Bool) → IsKept is → intersection ie enables ≡ ie
+    → IsLawful p → IsLawful (record p { is = is; ie = ie; halted = halted })
+lawful_interrupts p is ie halted kept enabled h =
+    record { capable = h.capable; clb = h.clb; fb = h.fb; reach = h.reach; is = kept; ie = enabled; stopped = h.stopped; sact = h.sact; ci = h.ci; power = h.power; sctl = h.sctl; link = h.link; present = h.present; ccs = h.ccs; speed = h.speed; first = h.first }
+
+-- another SUD, ALPE and ASP, and a link that DET asks for with them
+pub lawful_power : (p : HbaPort) (sud alpe asp : Bool) → IsPowered p.capabilities sud alpe asp → asked_link (p.sctl % 2 ^ 4) p.present sud p.link ≡ p.link
+    → IsLawful p → IsLawful (record p { sud = sud; alpe = alpe; asp = asp })
+lawful_power p sud alpe asp power link h =
+    record { capable = h.capable; clb = h.clb; fb = h.fb; reach = h.reach; is = h.is; ie = h.ie; stopped = h.stopped; sact = h.sact; ci = h.ci; power = power; sctl = h.sctl; link = link; present = h.present; ccs = h.ccs; speed = h.speed; first = h.first }
