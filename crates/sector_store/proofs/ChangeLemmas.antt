@@ -79,14 +79,17 @@ among_cases (x ∷ xs) y q is =
     ]
 
 -- a number is taken from the list, and its page from the upper layer
-pub touched_less : (number : ℕ) (rest : List ℕ) (old new : ℕ → Option Layers) → ChangesAt number old new → (layers_of (new number)).upper ≡ None
-    → (layers_of (new number)).touched ≡ false → AreTouched old (rest ++ number ∷ []) → AreTouched new rest
-touched_less number rest old new changes none unlisted touched = record {
-  made = λ q is. changes-made number old new changes q (touched.made q (among_left rest number q is));
-  written = still (λ (l : Layers). is_some l.upper) (ap is_some none) touched.written;
-  listed = still (λ (l : Layers). l.touched) unlisted touched.listed;
+pub touched_less : (number : ℕ) (rest touched : List ℕ) (old new : ℕ → Option Layers) (lower : Option (List ℕ)) → touched ≡ rest ++ number ∷ [] → ChangesAt number old new
+    → layers_of (new number) ≡ record { upper = None; lower = lower; held = false; touched = false } → AreTouched old touched → AreTouched new rest
+touched_less number rest touched old new lower items changes is all = record {
+  made = λ q there. changes-made number old new changes q (before.made q (among_left rest number q there));
+  written = still (λ (l : Layers). is_some l.upper) (ap (λ (l : Layers). is_some l.upper) is) before.written;
+  listed = still (λ (l : Layers). l.touched) (ap (λ (l : Layers). l.touched) is) before.listed;
 }
   where
+    before : AreTouched old (rest ++ number ∷ [])
+    before = subst (AreTouched old) items all
+
     still : (F : Layers → Bool) → F (layers_of (new number)) ≡ false → ((q : ℕ) → F (layers_of (old q)) ≡ true → among (rest ++ number ∷ []) q ≡ true)
         → (q : ℕ) → F (layers_of (new q)) ≡ true → among rest q ≡ true
     still F gone all q is =

@@ -77,31 +77,46 @@ same_sector f g n s size size' same =
       | inr past ↦ sector_at-past (joined f n) s (omega (arith, length-joined f n size)) ∙ sym (sector_at-past (joined g n) s (omega (arith, length-joined g n size')))
     ]
 
+-- sectors whose bytes are inside an image are among its sectors
+pub inside_joined : (f : ℕ → List ℕ) (n end : ℕ) → AreSectors f → 512 * end ≤ length (joined f n) → end ≤ n
+inside_joined f n end size fits = let len = length-joined f n size in omega arith
+
+-- the same of a buffer of whole sectors
+pub buffer_inside : (f : ℕ → List ℕ) (n lba len : ℕ) → AreSectors f → len ≡ 512 * (len / 512) → 512 * lba + len ≤ length (joined f n) → lba + len / 512 ≤ n
+buffer_inside f n lba len size whole fits = inside_joined f n (lba + len / 512) size (omega arith)
+
 -- a buffer with so many sectors of an image is that part of the image
-pub read-joined : (f : ℕ → List ℕ) (n lba k : ℕ) (out : List ℕ) → AreSectors f → length out ≡ 512 * k → lba + k ≤ n
-    → ((i : ℕ) → i < k → sector_at out i ≡ f (lba + i)) → out ≡ take (512 * k) (drop (512 * lba) (joined f n))
-read-joined f n lba k out size len fits each =
+pub read-joined : (f : ℕ → List ℕ) (n lba len : ℕ) (out : List ℕ) → AreSectors f → len ≡ 512 * (len / 512) → 512 * lba + len ≤ length (joined f n)
+    → length out ≡ len → AreRead f lba out → out ≡ take len (drop (512 * lba) (joined f n))
+read-joined f n lba len out size whole fits long each =
     let image = joined f n in
+    let k = len / 512 in
     sym (take_all (512 * k) out (omega arith))
     ∙ joined-sectors (sector_at out) out (λ s. refl) 0 k
     ∙ flat_map-same (sector_at out) (sector_at image) 0 lba k (λ i l. one i l)
     ∙ sym (joined-sectors (sector_at image) image (λ s. refl) lba k)
+    ∙ ap (λ m. take m (drop (512 * lba) image)) (sym whole)
   where
-    one : (i : ℕ) → i < k → sector_at out (0 + i) ≡ sector_at (joined f n) (lba + i)
-    one i l = ap (sector_at out) (let e : 0 + i ≡ i = omega arith in e) ∙ each i l ∙ sym (sector_at-joined f n (lba + i) size (omega arith))
+    one : (i : ℕ) → i < len / 512 → sector_at out (0 + i) ≡ sector_at (joined f n) (lba + i)
+    one i l =
+        let inside : lba + len / 512 ≤ n = buffer_inside f n lba len size whole fits in
+        ap (sector_at out) (let e : 0 + i ≡ i = omega arith in e) ∙ each i (omega arith) ∙ sym (sector_at-joined f n (lba + i) size (omega arith))
 
 -- if there is such a buffer, it is that part
-pub if-read-joined : (found : Option (List ℕ)) (f : ℕ → List ℕ) (n lba len : ℕ) → AreSectors f → len ≡ 512 * (len / 512) → lba + len / 512 ≤ n
+pub if-read-joined : (found : Option (List ℕ)) (f : ℕ → List ℕ) (n lba len : ℕ) → AreSectors f → len ≡ 512 * (len / 512) → 512 * lba + len ≤ length (joined f n)
     → IfSome found (AreRead f lba) → IfSome found (λ bytes. length bytes ≡ len) → IfSome found (λ bytes. bytes ≡ take len (drop (512 * lba) (joined f n)))
 if-read-joined None f n lba len size whole fits each long = Prim.tt
-if-read-joined (Some bytes) f n lba len size whole fits each long =
-    read-joined f n lba (len / 512) bytes size (long ∙ whole) fits (λ i l. each i (omega (arith, long)))
-    ∙ ap (λ m. take m (drop (512 * lba) (joined f n))) (sym whole)
+if-read-joined (Some bytes) f n lba len size whole fits each long = read-joined f n lba len bytes size whole fits long each
+
+-- two images of as many sectors are of one length
+pub length-joined_same : (f g : ℕ → List ℕ) (n : ℕ) → AreSectors f → AreSectors g → length (joined g n) ≡ length (joined f n)
+length-joined_same f g n size size' = length-joined g n size' ∙ sym (length-joined f n size)
 
 -- each sector once some were written
-pub written-joined : (f g : ℕ → List ℕ) (n lba : ℕ) (bytes : List ℕ) → AreSectors f → AreSectors g → lba + length bytes / 512 ≤ n
-    → ((s : ℕ) → g s ≡ cond (leb lba s && ltb s (lba + length bytes / 512)) (sector_at bytes (s - lba)) (f s)) → IsWrittenOver lba bytes (joined f n) (joined g n)
-written-joined f g n lba bytes size size' fits each s =
+pub written-joined : (f g : ℕ → List ℕ) (n lba : ℕ) (bytes : List ℕ) → AreSectors f → AreSectors g → length bytes ≡ 512 * (length bytes / 512)
+    → 512 * lba + length bytes ≤ length (joined f n) → ((s : ℕ) → g s ≡ cond (leb lba s && ltb s (lba + length bytes / 512)) (sector_at bytes (s - lba)) (f s)) → IsWrittenOver lba bytes (joined f n) (joined g n)
+written-joined f g n lba bytes size size' whole fits each s =
+    let inside : lba + length bytes / 512 ≤ n = buffer_inside f n lba (length bytes) size whole fits in
     let test = leb lba s && ltb s (lba + length bytes / 512) in
     elim (cases_lt s n) [
       | inl inside ↦ sector_at-joined g n s size' inside ∙ each s ∙ ap (cond test (sector_at bytes (s - lba))) (sym (sector_at-joined f n s size inside))

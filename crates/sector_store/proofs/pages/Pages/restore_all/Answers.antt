@@ -1,7 +1,6 @@
-use Rattle.std.proofs.Common.{◌*◌, ◌≤◌, ap, ◌∙◌, subst}
+use Rattle.std.proofs.Common.{◌*◌, ◌≤◌, ap, ◌∙◌}
 use Rattle.sector_store.specs.Layers.{Layers}
 use Rattle.sector_store.specs.Slots.{slot_at, table_span}
-use Rattle.sector_store.specs.Shown.{AreTouched}
 use Rattle.sector_store.proofs.ChangeLemmas.{last_made, touched_less, whole_dropped, kept_dropped}
 use Rattle.sector_store.proofs.pages.Pages.restore_all.Goals as goal
 
@@ -18,10 +17,7 @@ invariant_of-self g c =
       most = c.loop-number.self.most;
       room = room;
       whole = whole_dropped c.in-Some.number old new c.restore.ensures.others c.restore.ensures.layers c.loop-number.self.whole;
-      touched_are =
-          touched_less c.in-Some.number c.pop.new.self.items old new c.restore.ensures.others (ap (λ (l : Layers). l.upper) c.restore.ensures.layers)
-          (ap (λ (l : Layers). l.touched) c.restore.ensures.layers)
-          (subst (λ xs. AreTouched old xs) c.in-Some.ensures.items c.loop-number.self.touched_are);
+      touched_are = touched_less c.in-Some.number c.pop.new.self.items _ old new _ c.in-Some.ensures.items c.restore.ensures.others c.restore.ensures.layers c.loop-number.self.touched_are;
     }
 
 pub loop-number-preserved : goal.loop-number-preserved
