@@ -2,6 +2,7 @@
 -- first answers some truth value.
 use Rattle.std.proofs.Common.{◌≡◌, ℕ, ◌<◌, ◌^◌, Bool, List, [], ◌∷◌, refl, ap, w64}
 use seplogic.Ra.Ura.{Ura}
+use mir.Syntax.{Args, a_type, dnil, dcons}
 use mir.Val.{Val, vunit, vbool, vint, vptr}
 use base.Logic.{SProp, ent, sep, ex, guard, id⊢}
 use base.Fml.{Lft, Share, Fml, ftrue, fsep, flft}
@@ -10,14 +11,26 @@ use prog.Routine.{Routine}
 use types.Logic.{Logic, sem}
 use contract.Monad.{Fun}
 use types.Kit.{‵, ◌⊛◌, raw, some, later, ◌$◌, ◌∵◌, !, qed, move, keep, use1, split, join, pick, fjoin, feq_i, feq_l, flt_i, check, show, await, updating, now as at_once, done}
-use denote.Builtin.{bool, unit}
+use denote.Builtin.{bool, unit, RefOf}
 use denote.Memory.{hidden_shr}
+use denote.Param.{bounded, param}
+use denote.Signature.{Slot, plain}
 use denote.Steps.{nothing, only}
 use denote.Triple.Statement.{Contract}
 use denote.Triple.Spec.{triple_of}
+use Rattle.std.proofs.alloc.Calls.{Al}
+use Rattle.refusing_allocator.specs.contracts.refusing.Refusing as refusing
 use Rattle.refusing_allocator.specs.contracts.counter.Counter as counter
 use Rattle.refusing_allocator.specs.contracts.counter.refuses as asked
 use Rattle.refusing_allocator.specs.contracts.counter.returns as returned
+
+-- what a method is made for: the allocator below
+abbrev pub args : Al → Args
+args Z = bounded (a_type ∷ []) (Z.row, tt) (dcons Z.d (dcons Z.drops dnil))
+
+-- its first argument, a `&` to the allocator
+abbrev pub self : Al → Slot 2
+self Z = RefOf (0 ∷ []) tt (plain (λ _. refusing.the_row (param 0 Z.row))) (λ _. tt)
 
 abbrev pub Counts : Type 0
 Counts = (counter.the_row).Denot
