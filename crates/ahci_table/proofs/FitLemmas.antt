@@ -14,10 +14,13 @@ use Rattle.sata_fis.specs.Command.{asked_by, h2d_for, is_queued}
 use Rattle.sata_fis.proofs.FieldLemmas.{two_bytes, four_bytes}
 use Rattle.sata_fis.proofs.SpellingLemmas.{h2d_at-h2d_bytes}
 use Rattle.ncq_journal.specs.Image.{is_write}
+use Rattle.ncq_journal.specs.Lawful.{IsProper}
 use Rattle.ncq_journal.specs.Work.{Work, Read, Write, lba_of, sectors_of}
 use Rattle.ahci_table.specs.declared.piece.Piece.{Piece}
+use Rattle.ahci_table.specs.declared.piece_layout.PieceLayout.{PieceLayout}
 use Rattle.ahci_table.specs.Build.{IsBuilt, Carries, dword, data_for, entry_for, header_for, queued_for}
 use Rattle.ahci_table.specs.Command.{cfis, h2d, queued_of}
+use Rattle.ahci_table.specs.Defaults.{list_of}
 use Rattle.ahci_table.specs.Fit.{IsEntry, IsFit}
 use Rattle.ahci_table.specs.Header.{HeaderFields, header_at, header_of}
 use Rattle.ahci_table.specs.Piece.{are_apart, end_of, furthest, total}
@@ -25,7 +28,8 @@ use Rattle.ahci_table.specs.Prdt.{EntryFields, entry_at, entry_of, entry_place, 
 use Rattle.ahci_table.specs.Text.{joined, text}
 use Rattle.ahci_table.specs.Window.{WindowState, base}
 use Rattle.ahci_table.proofs.BuildLemmas.{furthest_covers, furthest_within, table_fits}
-use Rattle.ahci_table.proofs.RefusalLemmas.{IsFree, IsEven, all_after, all_below, all_even}
+use Rattle.ahci_table.proofs.ProperLemmas.{proper_serves}
+use Rattle.ahci_table.proofs.RefusalLemmas.{IsFree, IsEven, all_after, all_below, all_even, free_from}
 
 -- the header's fields
 abbrev pub fields : Bool → ℕ → ℕ → HeaderFields
@@ -254,3 +258,12 @@ fit_built tag work fua ps w low f b =
         whole = ap total list ∙ f.sum ∙ ap (λ (a : QueuedFields). 512 * a.sectors) (sym q);
       };
     }
+
+-- one that names no pieces
+pub built_over_layout : (layout : PieceLayout) (tag : ℕ) (work : Work) (fua : Bool) (list : List Piece) (w : WindowState) → tag < 32 → IsProper work
+    → list ≡ list_of layout (sectors_of work) → IsBuilt tag work fua list w → Carries tag work fua (list_of layout (sectors_of work)) w × IsFit w
+built_over_layout layout tag work fua list w low proper is built =
+    let ps = list_of layout (sectors_of work) in
+    let free = free_from work ps (proper_serves layout work proper) in
+    let b = subst (λ l. IsBuilt tag work fua l w) is built in
+    (carries_built tag work fua ps w low free b, fit_built tag work fua ps w low free b)

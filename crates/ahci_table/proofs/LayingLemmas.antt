@@ -39,15 +39,16 @@ length-laid end (p ∷ ps) text r sum =
     omega arith
 
 -- what is there before a piece's own bytes, and with them
-before_own : (front : List ℕ) (end at : ℕ) → length front ≡ end → end ≤ at → length (front ++ replicate (at - end) 0) ≡ at
-before_own front end at is from =
-    let gap_is : length (replicate {A = ℕ} (at - end) 0) ≡ at - end = length-replicate (at - end) 0 in
-    length-append front (replicate (at - end) 0) ∙ (let e : length front + length (replicate {A = ℕ} (at - end) 0) ≡ at = omega arith in e)
+before_own : (front : List ℕ) (end : ℕ) (p : Piece) (ps : List Piece) → length front ≡ end → rises end (p ∷ ps) ≡ true → length (front ++ replicate (p.at - end) 0) ≡ p.at
+before_own front end p ps is r =
+    let from : end ≤ p.at = begins end p ps r in
+    let gap_is : length (replicate {A = ℕ} (p.at - end) 0) ≡ p.at - end = length-replicate (p.at - end) 0 in
+    length-append front (replicate (p.at - end) 0) ∙ (let e : length front + length (replicate {A = ℕ} (p.at - end) 0) ≡ p.at = omega arith in e)
 
-with_own : (front : List ℕ) (end : ℕ) (p : Piece) (own : List ℕ) → length front ≡ end → end ≤ p.at → length own ≡ p.len
+with_own : (front : List ℕ) (end : ℕ) (p : Piece) (ps : List Piece) (own : List ℕ) → length front ≡ end → rises end (p ∷ ps) ≡ true → length own ≡ p.len
     → length ((front ++ replicate (p.at - end) 0) ++ own) ≡ end_of p
-with_own front end p own is from len =
-    let lead : length (front ++ replicate (p.at - end) 0) ≡ p.at = before_own front end p.at is from in
+with_own front end p ps own is r len =
+    let lead : length (front ++ replicate (p.at - end) 0) ≡ p.at = before_own front end p ps is r in
     length-append (front ++ replicate (p.at - end) 0) own ∙ (let e : length (front ++ replicate (p.at - end) 0) + length own ≡ end_of p = omega arith in e)
 
 regroup : (front gap own rest : List ℕ) → front ++ (gap ++ own ++ rest) ≡ front ++ gap ++ own ++ rest
@@ -61,19 +62,17 @@ pub joined-laid : (front : List ℕ) (end : ℕ) (ps : List Piece) (text : List 
     → total ps ≡ length text → joined ps (front ++ laid end ps text) ≡ text
 joined-laid front end [] text is r sum = sym (nil_from_length text (omega arith))
 joined-laid front end (p ∷ ps) text is r sum =
-    let from : end ≤ p.at = begins end p ps r in
     let gap : List ℕ = replicate (p.at - end) 0 in
     let own = take p.len text in
-    let left = drop p.len text in
-    let rest = laid (end_of p) ps left in
-    let own_is : length own ≡ p.len = own_length p ps text sum in
-    let lead : length (front ++ gap) ≡ p.at = before_own front end p.at is from in
+    let rest = laid (end_of p) ps (drop p.len text) in
+    let own_is = own_length p ps text sum in
+    let lead : length (front ++ gap) ≡ p.at = before_own front end p ps is r in
     let first : bytes_of p (front ++ (gap ++ own ++ rest)) ≡ own =
     ap (λ z. bytes_of p z) (apart front gap own rest)
     ∙ ap (take p.len) (drop_at (front ++ gap) (own ++ rest) p.at lead) ∙ take_at own rest p.len own_is in
-    let others : joined ps (front ++ (gap ++ own ++ rest)) ≡ left =
+    let others : joined ps (front ++ (gap ++ own ++ rest)) ≡ drop p.len text =
     ap (joined ps) (regroup front gap own rest)
-    ∙ joined-laid ((front ++ gap) ++ own) (end_of p) ps left (with_own front end p own is from own_is) (others_rise end p ps r) (left_over p ps text sum) in
+    ∙ joined-laid ((front ++ gap) ++ own) (end_of p) ps (drop p.len text) (with_own front end p ps own is r own_is) (others_rise end p ps r) (left_over p ps text sum) in
     ap (λ z. z ++ joined ps (front ++ (gap ++ own ++ rest))) first ∙ ap (λ z. own ++ z) others ∙ take-append-drop p.len text
 
 -- a place that the first piece covers is in some piece
@@ -96,18 +95,16 @@ zero_after : (front : List ℕ) (end : ℕ) (ps : List Piece) (text : List ℕ) 
     → total ps ≡ length text → in_some x ps ≡ false → end ≤ x → get_or (front ++ laid end ps text) x 0 ≡ 0
 zero_after front end [] text x is r sum e after = get_or_past (front ++ []) x 0 (let n = length-append front [] in omega arith)
 zero_after front end (p ∷ ps) text x is r sum e after =
-    let from : end ≤ p.at = begins end p ps r in
     let gap : List ℕ = replicate (p.at - end) 0 in
     let own = take p.len text in
-    let left = drop p.len text in
-    let rest = laid (end_of p) ps left in
-    let own_is : length own ≡ p.len = own_length p ps text sum in
-    let lead : length (front ++ gap) ≡ p.at = before_own front end p.at is from in
+    let rest = laid (end_of p) ps (drop p.len text) in
+    let own_is = own_length p ps text sum in
+    let lead : length (front ++ gap) ≡ p.at = before_own front end p ps is r in
     elim (cases_lt x p.at) [
       | inl early ↦ ap (λ z. get_or z x 0) (apart front gap own rest)
           ∙ get_or_append_left (front ++ gap) (own ++ rest) 0 x (omega arith) ∙ get_or-append_right front gap end x 0 is after ∙ zero_in (p.at - end) (x - end)
       | inr late ↦ ap (λ z. get_or z x 0) (regroup front gap own rest)
-          ∙ zero_after ((front ++ gap) ++ own) (end_of p) ps left x (with_own front end p own is from own_is) (others_rise end p ps r) (left_over p ps text sum)
+          ∙ zero_after ((front ++ gap) ++ own) (end_of p) ps (drop p.len text) x (with_own front end p ps own is r own_is) (others_rise end p ps r) (left_over p ps text sum)
           (or_parts (covers x p) (in_some x ps) e).1 (covered x p ps e late)
     ]
 

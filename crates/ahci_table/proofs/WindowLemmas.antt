@@ -148,6 +148,14 @@ scattered_window w offset from bytes f len moved others =
       agree_fit w bytes h f,
     )
 
+-- the same of bytes and of a list that are those of the window
+pub scattered_in : (w v : WindowState) (offset : ℕ) (from old new : List ℕ) (list : List Piece) → list ≡ pieces w → old ≡ w.bytes → v ≡ with_bytes w new → IsFit w
+    → length new ≡ length old → joined list new ≡ replaced offset from (joined list old) → ((x : ℕ) → in_some x list ≡ false → get_or new x 0 ≡ get_or old x 0)
+    → IsScattered w offset from v × IsFit v
+scattered_in w v offset from old new list own was is f len moved others =
+    subst (λ u. IsScattered w offset from u × IsFit u) (sym is)
+    (scattered_window w offset from new f (len ∙ ap length was) (rw (own, was) at moved) (rw (own, was) at others))
+
 -- the text of a window that is fit has the bytes of the command's sectors
 length-joined : (n : ℕ) (bytes : List ℕ) (ps : List Piece) → n ≡ length bytes → All (λ p. end_of p ≤ n) ps → length (joined ps bytes) ≡ total ps
 length-joined n bytes [] same h = refl

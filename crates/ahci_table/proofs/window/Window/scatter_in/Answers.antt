@@ -1,11 +1,8 @@
 -- The pieces end within the window, and the new bytes make a window that is fit.
-use Rattle.std.proofs.Common.{◌≡◌, List, ℕ, length, ap, sym, subst, ◌∙◌}
+use Rattle.std.proofs.Common.{◌≡◌, List, ℕ, ap, ◌∙◌}
 use Rattle.std.proofs.lemmas.List.{with_items_is}
 use Rattle.ahci_table.specs.Window.{WindowState}
-use Rattle.ahci_table.specs.Fit.{IsFit}
-use Rattle.ahci_table.specs.Prdt.{pieces}
-use Rattle.ahci_table.specs.Scatter.{IsScattered}
-use Rattle.ahci_table.proofs.WindowLemmas.{pieces_inside, scattered_window, with_bytes}
+use Rattle.ahci_table.proofs.WindowLemmas.{pieces_inside, scattered_in, with_bytes}
 use Rattle.ahci_table.proofs.window.Window.scatter_in.Goals as goal
 
 pub scatter-requires-clause-inside : goal.scatter-requires-clause-inside
@@ -22,21 +19,14 @@ window_is tag header items bytes after w is same = ap (made tag header) same ∙
 
 pub returns-clause-scattered : goal.returns-clause-scattered
 returns-clause-scattered g c =
-    let own : c.self.inside.bytes.items ≡ c.args.self.now.bytes = ap (λ w. w.bytes) c.self.view_is in
-    let list : c.args.list.now ≡ pieces c.args.self.now = c.requires.list in
-    let bytes : c.deref_mut.result.now ≡ c.args.self.now.bytes = c.deref_mut.ensures.value ∙ own in
     let after = with_items_is c.self.inside.bytes c.scatter.new.bytes (c.scatter.ensures.len ∙ c.deref_mut.ensures.len) in
-    let both = scattered_window c.args.self.now c.args.offset c.args.from.now c.scatter.new.bytes c.requires.fit (c.scatter.ensures.len ∙ ap length bytes)
-    (rw (list, bytes) at c.scatter.ensures.text) (rw (list, bytes) at c.scatter.ensures.others) in
-    subst (IsScattered c.args.self.now c.args.offset c.args.from.now)
-    (sym (window_is c.self.inside.tag c.self.inside.header c.self.inside.bytes.items c.scatter.new.bytes _ c.args.self.now c.self.view_is after)) both.0
+    (scattered_in c.args.self.now _ c.args.offset c.args.from.now _ c.scatter.new.bytes _ c.requires.list (c.deref_mut.ensures.value ∙ ap (λ w. w.bytes) c.self.view_is)
+    (window_is c.self.inside.tag c.self.inside.header c.self.inside.bytes.items c.scatter.new.bytes _ c.args.self.now c.self.view_is after)
+    c.requires.fit c.scatter.ensures.len c.scatter.ensures.text c.scatter.ensures.others).0
 
 pub returns-clause-fit : goal.returns-clause-fit
 returns-clause-fit g c =
-    let own : c.self.inside.bytes.items ≡ c.args.self.now.bytes = ap (λ w. w.bytes) c.self.view_is in
-    let list : c.args.list.now ≡ pieces c.args.self.now = c.requires.list in
-    let bytes : c.deref_mut.result.now ≡ c.args.self.now.bytes = c.deref_mut.ensures.value ∙ own in
     let after = with_items_is c.self.inside.bytes c.scatter.new.bytes (c.scatter.ensures.len ∙ c.deref_mut.ensures.len) in
-    let both = scattered_window c.args.self.now c.args.offset c.args.from.now c.scatter.new.bytes c.requires.fit (c.scatter.ensures.len ∙ ap length bytes)
-    (rw (list, bytes) at c.scatter.ensures.text) (rw (list, bytes) at c.scatter.ensures.others) in
-    subst IsFit (sym (window_is c.self.inside.tag c.self.inside.header c.self.inside.bytes.items c.scatter.new.bytes _ c.args.self.now c.self.view_is after)) both.1
+    (scattered_in c.args.self.now _ c.args.offset c.args.from.now _ c.scatter.new.bytes _ c.requires.list (c.deref_mut.ensures.value ∙ ap (λ w. w.bytes) c.self.view_is)
+    (window_is c.self.inside.tag c.self.inside.header c.self.inside.bytes.items c.scatter.new.bytes _ c.args.self.now c.self.view_is after)
+    c.requires.fit c.scatter.ensures.len c.scatter.ensures.text c.scatter.ensures.others).1
