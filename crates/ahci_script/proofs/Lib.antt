@@ -1,6 +1,7 @@
 pub mod DecimalLemmas
 pub mod HexBytesLemmas
 pub mod HexValueLemmas
+pub mod NameLemmas
 pub mod PrintingLemmas
 pub mod ShortLemmas
 pub mod TagsLemmas
