@@ -1,6 +1,6 @@
 //! Commands that move no data, and how each is answered (ACS-3, by their titles).
 
-use crate::tests::player::Row::{Does, Has, Lays, Reads, Refuses, Writes};
+use crate::tests::player::Row::{Does, Has, Issues, Reads, Refuses};
 use crate::tests::player::{Player, Row, Story, plays};
 use crate::tests::registers::{PX_CI, PX_IS, PX_TFD};
 use crate::tests::settings::{
@@ -255,8 +255,7 @@ fn answers(rt: &impl Abort, player: &mut Player, name: &'static str, answered: &
     let (fis, status, error, lba, count) = *answered;
     let failed = status % 2;
     let rows = [
-        Lays(0, NONE, TABLE, fis, NO_PIECES),
-        Writes(PX_CI, 1),
+        Issues(0, NONE, TABLE, fis, NO_PIECES),
         Does(0),
         Row::Answered(status, error, lba, count),
         Reads(PX_TFD, u32::from_le_bytes([status, error, 0, 0])),
@@ -282,42 +281,39 @@ const LBA: u64 = RECEIVED + 0x44;
 
 /// No disk of 8 sectors has LBA 5000001h. After a command of 28 bits, bits 27:24 are in the device field (Serial ATA, "Register FIS - Device to Host").
 const READ_FAR: &[Row] = &[
-    Lays(
+    Issues(
         0,
         ONE,
         TABLE,
         [0x2780_C800, 0x0100_0045, 0, 0x0100_0000],
         SECTOR,
     ),
-    Writes(PX_CI, 1),
     Does(0),
     Reads(PX_TFD, 0x1041),
     Has(LBA, &[1, 0, 0, 5, 0, 0, 0]),
 ];
 
 const READ_FAR_EXT: &[Row] = &[
-    Lays(
+    Issues(
         0,
         ONE,
         TABLE,
         [0x2780_2500, 0x0100_0040, 0x0500_0000, 0x0100_0000],
         SECTOR,
     ),
-    Writes(PX_CI, 1),
     Does(0),
     Reads(PX_TFD, 0x1041),
     Has(LBA, &[1, 0, 0, 0, 5, 0, 0]),
 ];
 
 const VERIFY_FAR: &[Row] = &[
-    Lays(
+    Issues(
         0,
         NONE,
         TABLE,
         [0x2780_4000, 0x0100_0045, 0, 0x0100_0000],
         NO_PIECES,
     ),
-    Writes(PX_CI, 1),
     Does(0),
     Reads(PX_TFD, 0x1041),
     Has(LBA, &[1, 0, 0, 5, 0, 0, 0]),
@@ -325,16 +321,14 @@ const VERIFY_FAR: &[Row] = &[
 
 /// The flush fails at a sector that it names.
 const FLUSH_FAILS: &[Row] = &[
-    Lays(0, NONE, TABLE, [0x2780_E700, 0, 0, 0], NO_PIECES),
-    Writes(PX_CI, 1),
+    Issues(0, NONE, TABLE, [0x2780_E700, 0, 0, 0], NO_PIECES),
     Row::Fetches(0),
     Refuses(0, 0x40, 0x0300_0007),
     Has(LBA, &[7, 0, 0, 3, 0, 0, 0]),
 ];
 
 const FLUSH_FAILS_EXT: &[Row] = &[
-    Lays(0, NONE, TABLE, [0x2780_EA00, 0, 0, 0], NO_PIECES),
-    Writes(PX_CI, 1),
+    Issues(0, NONE, TABLE, [0x2780_EA00, 0, 0, 0], NO_PIECES),
     Row::Fetches(0),
     Refuses(0, 0x40, 0x0300_0007),
     Has(LBA, &[7, 0, 0, 0, 3, 0, 0]),

@@ -2,7 +2,8 @@
 
 use crate::tests::player::Pieces::These;
 use crate::tests::player::Row::{
-    Does, Fills, Has, HasAll, Last, Lays, Reads, ReadsBits, Refuses, Sector, Takes, Writes,
+    Does, Fills, Has, HasAll, Issues, Last, Queues, Reads, ReadsBits, Refuses, Sector, Takes,
+    Writes,
 };
 use crate::tests::player::{Pieces, Player, Row, Story, plays};
 use crate::tests::registers::{PX_CI, PX_CMD, PX_IS, PX_SACT, PX_TFD};
@@ -61,8 +62,7 @@ fn moves(rt: &impl Abort, player: &mut Player, byte: u8, mover: Mover) {
         Fills(DATA, 700, byte),
         Fills(DATA + 0x400, 2, byte),
         Fills(DATA + 0x800, 834, byte),
-        Lays(0, 0x0003_0045, TABLE, write, SECTORS),
-        Writes(PX_CI, 1),
+        Issues(0, 0x0003_0045, TABLE, write, SECTORS),
         Does(0),
         Reads(PX_TFD, 0x40),
         Writes(PX_IS, 0xFFFF_FFFF),
@@ -71,8 +71,7 @@ fn moves(rt: &impl Abort, player: &mut Player, byte: u8, mover: Mover) {
         Sector(4, byte),
         Sector(5, 0),
         Fills(DATA, 0x1000, 0),
-        Lays(0, 0x0003_0005, TABLE, read, SECTORS),
-        Writes(PX_CI, 1),
+        Issues(0, 0x0003_0005, TABLE, read, SECTORS),
         Does(0),
         Reads(PX_IS, interrupt),
         Reads(PX_CI, 0),
@@ -101,14 +100,13 @@ fn each_read_sees_each_write(rt: HostRuntime) -> Result<(), Fail> {
 /// A write that passes the last sector: IDNF names its first one, and nothing moves (ACS-3, "LBA of first unrecoverable error").
 const BEYOND: &[Row] = &[
     Fills(DATA, 1024, 0xAA),
-    Lays(
+    Issues(
         0,
         ONE,
         TABLE,
         [0x2780_CA00, 0x0700_0040, 0, 0x0200_0000],
         These(&[(DATA, 1024)]),
     ),
-    Writes(PX_CI, 1),
     Does(0),
     Row::Answered(0x41, 0x10, 7, 0),
     Reads(PX_IS, 0x4000_0001),
@@ -117,14 +115,13 @@ const BEYOND: &[Row] = &[
 ];
 
 const READ_BEYOND: &[Row] = &[
-    Lays(
+    Issues(
         0,
         ONE,
         TABLE,
         [0x2780_C800, 0x0900_0040, 0, 0x0100_0000],
         SECTOR,
     ),
-    Writes(PX_CI, 1),
     Does(0),
     Row::Answered(0x41, 0x10, 9, 0),
     HasAll(DATA, 1024, 0xAA),
@@ -133,14 +130,13 @@ const READ_BEYOND: &[Row] = &[
 /// A read that passes the last sector: those that there are move, and IDNF names the first one that is not there.
 const READ_PAST: &[Row] = &[
     Fills(DATA, 2048, 0xAA),
-    Lays(
+    Issues(
         0,
         ONE,
         TABLE,
         [0x2780_C800, 0x0600_0040, 0, 0x0400_0000],
         These(&[(DATA, 2048)]),
     ),
-    Writes(PX_CI, 1),
     Does(0),
     Row::Answered(0x41, 0x10, 8, 0),
     Reads(PX_IS, 0x4000_0001),
@@ -153,14 +149,13 @@ const READ_PAST: &[Row] = &[
 /// The same by PIO: a block for each sector that there is.
 const READ_PAST_BY_PIO: &[Row] = &[
     Fills(DATA, 2048, 0xAA),
-    Lays(
+    Issues(
         0,
         ONE,
         TABLE,
         [0x2780_2000, 0x0600_0040, 0, 0x0400_0000],
         These(&[(DATA, 2048)]),
     ),
-    Writes(PX_CI, 1),
     Does(0),
     Row::Answered(0x41, 0x10, 8, 0),
     Reads(PX_IS, 0x4000_0003),
@@ -174,15 +169,13 @@ const READ_PAST_BY_PIO: &[Row] = &[
 /// A queued command beyond the last sector: the refusal is a D2H Register FIS, and PxCI and PxSACT keep its bits.
 const QUEUED_BEYOND: &[Row] = &[
     Fills(DATA, 1024, 0xAA),
-    Lays(
+    Queues(
         1,
         ONE,
         OTHER,
         [0x2780_6001, 0x0800_0040, 0, 0x0800_0000],
         SECTOR,
     ),
-    Writes(PX_SACT, 2),
-    Writes(PX_CI, 2),
     Does(1),
     Reads(PX_TFD, 0x1041),
     ReadsBits(PX_IS, 0x4000_0000, 0x4000_0000),
@@ -194,8 +187,7 @@ const QUEUED_BEYOND: &[Row] = &[
 /// The disk fails a read that is not queued, which it has read alone.
 const REFUSED: &[Row] = &[
     Fills(DATA, 512, 0xAA),
-    Lays(0, ONE, TABLE, READ_DMA, SECTOR),
-    Writes(PX_CI, 1),
+    Issues(0, ONE, TABLE, READ_DMA, SECTOR),
     Row::Fetches(0),
     Refuses(0, 0x40, 3),
     Row::Answered(0x41, 0x40, 3, 0),
@@ -207,14 +199,13 @@ const REFUSED: &[Row] = &[
 /// It fails after two sectors of three, which have moved; and a write, which has changed none and names its first one.
 const REFUSED_LATER: &[Row] = &[
     Fills(DATA, 1536, 0xAA),
-    Lays(
+    Issues(
         0,
         ONE,
         TABLE,
         [0x2780_C800, 0x0200_0040, 0, 0x0300_0000],
         These(&[(DATA, 1536)]),
     ),
-    Writes(PX_CI, 1),
     Row::Fetches(0),
     Refuses(0, 0x40, 4),
     Row::Answered(0x41, 0x40, 4, 0),
@@ -225,14 +216,13 @@ const REFUSED_LATER: &[Row] = &[
 ];
 
 const WRITE_REFUSED: &[Row] = &[
-    Lays(
+    Issues(
         0,
         ONE,
         TABLE,
         [0x2780_CA00, 0x0200_0040, 0, 0x0300_0000],
         These(&[(DATA, 1536)]),
     ),
-    Writes(PX_CI, 1),
     Row::Fetches(0),
     Refuses(0, 0x10, 4),
     Row::Answered(0x41, 0x10, 2, 0),
@@ -244,15 +234,13 @@ const WRITE_REFUSED: &[Row] = &[
 const QUEUE_FAILED: &[Row] = &[
     Fills(DATA, 1536, 0xAA),
     Fills(RECEIVED, 256, 0xEE),
-    Lays(
+    Queues(
         1,
         ONE,
         OTHER,
         [0x2780_6003, 0x0200_0040, 0, 0x0800_0000],
         These(&[(DATA, 1536)]),
     ),
-    Writes(PX_SACT, 2),
-    Writes(PX_CI, 2),
     Takes(1),
     Row::Fails(1, 0x40, 4),
     Reads(PX_TFD, 0x4041),
@@ -266,22 +254,19 @@ const QUEUE_FAILED: &[Row] = &[
 ];
 
 const READ_THE_LOG: &[Row] = &[
-    Lays(0, ONE, TABLE, READ_LOG, SECTOR),
-    Writes(PX_CI, 1),
+    Issues(0, ONE, TABLE, READ_LOG, SECTOR),
     Does(0),
     Has(DATA, &[1, 0, 0x41, 0x40, 4]),
 ];
 
 const QUEUED_WRITE_FAILED: &[Row] = &[
-    Lays(
+    Queues(
         1,
         ONE,
         OTHER,
         [0x2780_6103, 0x0200_0040, 0, 0x0800_0000],
         These(&[(DATA, 1536)]),
     ),
-    Writes(PX_SACT, 2),
-    Writes(PX_CI, 2),
     Takes(1),
     Row::Fails(1, 0x10, 4),
     Reads(PX_IS, 0x4000_0008),
@@ -289,8 +274,7 @@ const QUEUED_WRITE_FAILED: &[Row] = &[
 ];
 
 const LOG_OF_THE_WRITE: &[Row] = &[
-    Lays(0, ONE, TABLE, READ_LOG, SECTOR),
-    Writes(PX_CI, 1),
+    Issues(0, ONE, TABLE, READ_LOG, SECTOR),
     Does(0),
     Has(DATA, &[1, 0, 0x41, 0x10, 2]),
 ];
@@ -300,8 +284,7 @@ const NOT_RECEIVED: &[Row] = &[
     Fills(RECEIVED, 256, 0xEE),
     Fills(DATA, 512, 0xEE),
     Writes(PX_CMD, 0x01),
-    Lays(0, ONE, TABLE, IDENTIFY, SECTOR),
-    Writes(PX_CI, 1),
+    Issues(0, ONE, TABLE, IDENTIFY, SECTOR),
     Does(0),
     Reads(PX_CI, 1),
     ReadsBits(PX_TFD, 0x89, 0x80),
@@ -315,15 +298,12 @@ const NOT_RECEIVED: &[Row] = &[
     Has(RECEIVED + 0x20, &[0x5F]),
     Has(DATA + 2 * 60, &[8, 0]),
     Last(EventKind::Plain(Plain::Identify)),
-    Lays(0, NONE, TABLE, [0x2780_EA00, 0xA0, 0, 8], NO_PIECES),
-    Writes(PX_CI, 1),
+    Issues(0, NONE, TABLE, [0x2780_EA00, 0xA0, 0, 8], NO_PIECES),
     Does(0),
     Reads(PX_CI, 0),
     Last(EventKind::Plain(Plain::Flush)),
     Writes(PX_CMD, 0x01),
-    Lays(1, ONE, OTHER, READ, SECTOR),
-    Writes(PX_SACT, 2),
-    Writes(PX_CI, 2),
+    Queues(1, ONE, OTHER, READ, SECTOR),
     Does(1),
     Reads(PX_SACT, 2),
     Reads(PX_CI, 2),

@@ -1,7 +1,8 @@
 //! What log 11h counts (Serial ATA, "Phy Event Counters").
 
 use crate::tests::player::Row::{
-    Answered, Does, Fails, Fetches, Has, HasAll, Lays, Reads, Refuses, Signs, Takes, Writes,
+    Answered, Does, Fails, Fetches, Has, HasAll, Issues, Queues, Reads, Refuses, Signs, Takes,
+    Writes,
 };
 use crate::tests::player::{Player, Row, Story};
 use crate::tests::registers::{GHC, PX_CI, PX_SACT};
@@ -20,8 +21,7 @@ const RESETS_BY_DMA: [u32; 4] = [0x2780_4703, 0x1100_0000, 0, 0x0100_0000];
 
 /// Power-on has had the link reset, and the disk has sent its signature: counter 00Ah is 1, and 001h is 0.
 const ONE_SIGNATURE: &[Row] = &[
-    Lays(0, ONE, TABLE, BY_PIO, SECTOR),
-    Writes(PX_CI, 1),
+    Issues(0, ONE, TABLE, BY_PIO, SECTOR),
     Does(0),
     Reads(PX_CI, 0),
     Has(DATA, &[0, 0, 0, 0, 1, 0x10, 0, 0, 0x0A, 0x10, 1, 0, 0, 0]),
@@ -31,8 +31,7 @@ const ONE_SIGNATURE: &[Row] = &[
 
 /// A command ends with ICRC, and one with UNC; a software reset has a signature, which isn't counted.
 const FAILING: &[Row] = &[
-    Lays(0, ONE, TABLE, READ_DMA, SECTOR),
-    Writes(PX_CI, 1),
+    Issues(0, ONE, TABLE, READ_DMA, SECTOR),
     Fetches(0),
     Refuses(0, 0x84, 3),
     Answered(0x41, 0x84, 3, 0),
@@ -46,8 +45,7 @@ const FAILING_OTHERWISE: &[Row] = &[
 ];
 
 const AFTER_ONE_ERROR: &[Row] = &[
-    Lays(0, ONE, TABLE, BY_PIO, SECTOR),
-    Writes(PX_CI, 1),
+    Issues(0, ONE, TABLE, BY_PIO, SECTOR),
     Does(0),
     Has(DATA, &[0, 0, 0, 0, 1, 0x10, 1, 0, 0x0A, 0x10, 2, 0, 0, 0]),
     Has(DATA + 511, &[0xD2]),
@@ -55,42 +53,35 @@ const AFTER_ONE_ERROR: &[Row] = &[
 
 /// A queued command ends with ICRC, and its log is read.
 const QUEUE_FAILING: &[Row] = &[
-    Lays(1, ONE, OTHER, READ, SECTOR),
-    Writes(PX_SACT, 2),
-    Writes(PX_CI, 2),
+    Queues(1, ONE, OTHER, READ, SECTOR),
     Takes(1),
     Fails(1, 0x84, 3),
     Reads(PX_SACT, 2),
 ];
 
 const QUEUE_READ: &[Row] = &[
-    Lays(0, ONE, TABLE, READ_LOG, SECTOR),
-    Writes(PX_CI, 1),
+    Issues(0, ONE, TABLE, READ_LOG, SECTOR),
     Does(0),
     Has(DATA, &[1, 0, 0x41, 0x84]),
 ];
 
 /// The counters are read, and then reset; by DMA the same.
 const RESETTING: &[Row] = &[
-    Lays(0, ONE, TABLE, RESETS_BY_PIO, SECTOR),
-    Writes(PX_CI, 1),
+    Issues(0, ONE, TABLE, RESETS_BY_PIO, SECTOR),
     Does(0),
     Has(DATA, &[0, 0, 0, 0, 1, 0x10, 2, 0, 0x0A, 0x10, 2, 0, 0, 0]),
     Has(DATA + 511, &[0xD1]),
-    Lays(0, ONE, TABLE, BY_PIO, SECTOR),
-    Writes(PX_CI, 1),
+    Issues(0, ONE, TABLE, BY_PIO, SECTOR),
     Does(0),
     Has(DATA, &[0, 0, 0, 0, 1, 0x10, 0, 0, 0x0A, 0x10, 0, 0, 0, 0]),
     Has(DATA + 511, &[0xD5]),
 ];
 
 const RESETTING_BY_DMA: &[Row] = &[
-    Lays(0, ONE, TABLE, RESETS_BY_DMA, SECTOR),
-    Writes(PX_CI, 1),
+    Issues(0, ONE, TABLE, RESETS_BY_DMA, SECTOR),
     Does(0),
     Has(DATA, &[0, 0, 0, 0, 1, 0x10, 0, 0, 0x0A, 0x10, 1, 0, 0, 0]),
-    Lays(0, ONE, TABLE, BY_PIO, SECTOR),
-    Writes(PX_CI, 1),
+    Issues(0, ONE, TABLE, BY_PIO, SECTOR),
     Does(0),
     Has(DATA, &[0, 0, 0, 0, 1, 0x10, 0, 0, 0x0A, 0x10, 0, 0, 0, 0]),
 ];

@@ -1,7 +1,9 @@
 //! Stories of what ends a command in a fatal error (AHCI 1.3.1, section 6.1).
 
 use crate::tests::player::Pieces::These;
-use crate::tests::player::Row::{Does, Fills, Has, HasAll, Lays, Reads, ReadsBits, Sector, Writes};
+use crate::tests::player::Row::{
+    Does, Fills, Has, HasAll, Issues, Lays, Reads, ReadsBits, Sector, Writes,
+};
 use crate::tests::player::{Row, Story, plays};
 use crate::tests::registers::{PX_CI, PX_IS, PX_SACT, PX_TFD};
 use crate::tests::settings::{
@@ -71,8 +73,7 @@ pub const GOES_ON: &[Row] = &[
     Reads(PX_SACT, 0),
     Reads(PX_CI, 0),
     Fills(DATA, 512, 0xAA),
-    Lays(0, ONE, TABLE, READ_DMA, SECTOR),
-    Writes(PX_CI, 1),
+    Issues(0, ONE, TABLE, READ_DMA, SECTOR),
     Does(0),
     ReadsBits(PX_IS, 0x7F00_0001, 1),
     HasAll(DATA, 512, 0),

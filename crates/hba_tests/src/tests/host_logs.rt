@@ -2,7 +2,7 @@
 
 use crate::tests::player::Pieces::These;
 use crate::tests::player::Row::{
-    Answered, Does, Fetches, Fills, Has, HasAll, Lays, Reads, Steps, Writes,
+    Answered, Does, Fetches, Fills, Has, HasAll, Issues, Reads, Steps, Writes,
 };
 use crate::tests::player::{Pieces, Row, Story, plays};
 use crate::tests::registers::{GHC, PX_CI, PX_IS, PX_TFD};
@@ -24,14 +24,13 @@ const FILLED: &[Row] = &[
 
 /// WRITE LOG EXT of pages 01h and 02h of log 80h, up to the first block.
 const BEGUN: &[Row] = &[
-    Lays(
+    Issues(
         0,
         ONE,
         TABLE,
         [0x2780_3F00, 0x8001_0000, 0, 0x0200_0000],
         TWO,
     ),
-    Writes(PX_CI, 1),
     Fetches(0),
     Steps(0),
     Reads(PX_CI, 1),
@@ -49,14 +48,13 @@ const BEGUN: &[Row] = &[
 /// READ LOG EXT of pages 00h to 03h.
 const READ: &[Row] = &[
     Fills(DATA, 2048, 0xEE),
-    Lays(
+    Issues(
         0,
         0x0002_0005,
         TABLE,
         [0x2780_2F00, 0x8000_0000, 0, 0x0400_0000],
         FOUR,
     ),
-    Writes(PX_CI, 1),
     Does(0),
     Reads(PX_CI, 0),
     Reads(PX_TFD, 0x40),
@@ -92,14 +90,13 @@ const RESET: &[Row] = &[Writes(GHC, 0x8000_0001)];
 const BY_SMART: &[Row] = &[
     Fills(DATA, 512, 0x33),
     Fills(DATA + 512, 512, 0x44),
-    Lays(
+    Issues(
         0,
         ONE,
         TABLE,
         [0x2780_B0D6, 0x804F_C200, 0, 0x0200_0000],
         TWO,
     ),
-    Writes(PX_CI, 1),
     Does(0),
     Answered(0x40, 0, 0, 0),
     Has(LIST + 4, &[0, 4, 0, 0]),
@@ -108,14 +105,13 @@ const BY_SMART: &[Row] = &[
 /// SMART READ LOG of pages 00h to 03h.
 const READ_BY_SMART: &[Row] = &[
     Fills(DATA, 2048, 0xEE),
-    Lays(
+    Issues(
         0,
         0x0002_0005,
         TABLE,
         [0x2780_B0D5, 0x804F_C200, 0, 0x0400_0000],
         FOUR,
     ),
-    Writes(PX_CI, 1),
     Does(0),
     Reads(PX_CI, 0),
     HasAll(DATA, 512, 0x33),
@@ -128,26 +124,24 @@ const READ_BY_SMART: &[Row] = &[
 const BY_DMA: &[Row] = &[
     Fills(DATA, 512, 0x55),
     Fills(DATA + 512, 512, 0x66),
-    Lays(
+    Issues(
         0,
         ONE,
         TABLE,
         [0x2780_5700, 0x9F0E_0000, 0, 0x0200_0000],
         TWO,
     ),
-    Writes(PX_CI, 1),
     Does(0),
     Answered(0x40, 0, 0, 0),
     Has(LIST + 4, &[0, 4, 0, 0]),
     Fills(DATA, 2048, 0xEE),
-    Lays(
+    Issues(
         0,
         0x0002_0005,
         TABLE,
         [0x2780_4700, 0x9F0D_0000, 0, 0x0300_0000],
         FOUR,
     ),
-    Writes(PX_CI, 1),
     Does(0),
     HasAll(DATA, 512, 0),
     HasAll(DATA + 512, 512, 0x55),
@@ -156,8 +150,7 @@ const BY_DMA: &[Row] = &[
 ];
 
 const DISABLED: &[Row] = &[
-    Lays(0, NONE, TABLE, [0x2780_B0D9, 0x004F_C200, 0, 0], NO_PIECES),
-    Writes(PX_CI, 1),
+    Issues(0, NONE, TABLE, [0x2780_B0D9, 0x004F_C200, 0, 0], NO_PIECES),
     Does(0),
     Answered(0x40, 0, 0, 0),
 ];
@@ -165,27 +158,25 @@ const DISABLED: &[Row] = &[
 /// While SMART operations are disabled its two commands are aborted.
 const NOT_BY_SMART: &[Row] = &[
     Fills(DATA, 512, 0x77),
-    Lays(
+    Issues(
         0,
         ONE,
         TABLE,
         [0x2780_B0D6, 0x804F_C200, 0, 0x0100_0000],
         SECTOR,
     ),
-    Writes(PX_CI, 1),
     Does(0),
     Answered(0x41, 4, 0, 0),
 ];
 
 const UNREAD_BY_SMART: &[Row] = &[
-    Lays(
+    Issues(
         0,
         ONE,
         TABLE,
         [0x2780_B0D5, 0x804F_C200, 0, 0x0100_0000],
         SECTOR,
     ),
-    Writes(PX_CI, 1),
     Does(0),
     Answered(0x41, 4, 0, 0),
 ];

@@ -2,7 +2,9 @@
 
 use crate::tests::guest::Stretch;
 use crate::tests::player::Pieces::{Down, These, Up};
-use crate::tests::player::Row::{Does, Fills, Has, HasAll, Lays, Reads, Sector, Signs, Writes};
+use crate::tests::player::Row::{
+    Does, Fills, Has, HasAll, Issues, Lays, Queues, Reads, Sector, Signs, Writes,
+};
 use crate::tests::player::{Row, Story, plays};
 use crate::tests::registers::{
     PX_CI, PX_CLB, PX_CLBU, PX_CMD, PX_FB, PX_FBU, PX_IS, PX_SACT, PX_SERR,
@@ -24,15 +26,13 @@ const LONG: &[Stretch] = &[
 const READ_LONG: &[Row] = &[
     Fills(0x02D1_C000, 512, 0xEE),
     Fills(0x02D5_A000, 4096, 0xEE),
-    Lays(
+    Queues(
         24,
         0x003F_0005,
         0x027F_0D00,
         [0x2780_60F8, 0x0802_0040, 0x0000_0001, 0xC000_0008],
         Down(0x02D5_A000, 63, 4096),
     ),
-    Writes(PX_SACT, 0x0100_0000),
-    Writes(PX_CI, 0x0100_0000),
     Does(24),
     Reads(PX_IS, 8),
     Reads(PX_SACT, 0),
@@ -45,24 +45,22 @@ const READ_LONG: &[Row] = &[
 /// The first and the last of those sectors, and one below them.
 const MARKED: &[Row] = &[
     Fills(0x0C31_0000, 512, 0x51),
-    Lays(
+    Issues(
         0,
         ONE,
         TABLE,
         [0x2780_CA00, 0x0802_0040, 0, 0x0100_0000],
         These(&[(0x0C31_0000, 512)]),
     ),
-    Writes(PX_CI, 1),
     Does(0),
     Fills(0x0C31_0000, 512, 0x52),
-    Lays(
+    Issues(
         0,
         ONE,
         TABLE,
         [0x2780_CA00, 0xFF03_0040, 0, 0x0100_0000],
         These(&[(0x0C31_0000, 512)]),
     ),
-    Writes(PX_CI, 1),
     Does(0),
     Writes(PX_IS, 1),
     Sector(520, 0x51),
@@ -74,15 +72,13 @@ const WRITTEN_LONG: &[Row] = &[
     Fills(0x0C31_0000, 512, 0x61),
     Fills(0x0C31_0200, 512, 0x62),
     Fills(0x0C32_4E00, 512, 0x63),
-    Lays(
+    Queues(
         3,
         0x00A8_0045,
         0x027F_0D00,
         [0x2780_61A8, 0x0200_0040, 0, 0x1800_0008],
         Up(0x0C31_0000, 168, 512),
     ),
-    Writes(PX_SACT, 8),
-    Writes(PX_CI, 8),
     Does(3),
     Reads(PX_IS, 8),
     Sector(1, 0),
@@ -95,25 +91,23 @@ const WRITTEN_LONG: &[Row] = &[
 
 /// Entries are read 32 at a time: a list that ends with such a run, and one with an entry after it.
 const READ_AGAIN: &[Row] = &[
-    Lays(
+    Issues(
         0,
         0x0040_0005,
         0x027F_0D00,
         [0x2780_C800, 0x0200_0040, 0, 0x4000_0000],
         Up(0x0C31_0000, 64, 512),
     ),
-    Writes(PX_CI, 1),
     Does(0),
     HasAll(0x0C31_0000, 512, 0x61),
     HasAll(0x0C31_0200, 512, 0x62),
-    Lays(
+    Issues(
         0,
         0x0021_0005,
         0x027F_0D00,
         [0x2780_C800, 0x8900_0040, 0, 0x2100_0000],
         Up(0x0C31_0000, 33, 512),
     ),
-    Writes(PX_CI, 1),
     Does(0),
     HasAll(0x0C31_0000, 0x4000, 0),
     HasAll(0x0C31_4000, 512, 0x63),
@@ -142,15 +136,13 @@ const BASES: &[Row] = &[
 
 const READ_HIGH: &[Row] = &[
     Fills(0x1_02C8_9000, 0x4000, 0xEE),
-    Lays(
+    Queues(
         25,
         0x0004_0005,
         0x1_02B7_1800,
         [0x2780_6020, 0xFC00_0040, 0, 0xC800_0008],
         Down(0x1_02C8_C000, 4, 4096),
     ),
-    Writes(PX_SACT, 0x0200_0000),
-    Writes(PX_CI, 0x0200_0000),
     Does(25),
     Reads(PX_IS, 8),
     Reads(PX_SACT, 0),
@@ -162,41 +154,36 @@ const READ_HIGH: &[Row] = &[
 /// word 75), and takes one below it.
 const HIGH_SLOTS: &[Row] = &[
     Fills(DATA, 512, 0xAA),
-    Lays(
+    Issues(
         31,
         ONE,
         OTHER,
         [0x2780_CA00, 0x0300_0040, 0, 0x0100_0000],
         SECTOR,
     ),
-    Writes(PX_CI, 0x8000_0000),
     Does(31),
     Reads(PX_CI, 0),
     Sector(3, 0xAA),
     Fills(DATA, 512, 0),
-    Lays(
+    Queues(
         3,
         ONE,
         TABLE,
         [0x2780_6001, 0x0300_0040, 0, 0x1800_0000],
         SECTOR,
     ),
-    Writes(PX_SACT, 8),
-    Writes(PX_CI, 8),
     Does(3),
     Reads(PX_SACT, 0),
     HasAll(DATA, 512, 0xAA),
     Writes(PX_IS, 0xFFFF_FFFF),
     Fills(DATA, 512, 0x55),
-    Lays(
+    Queues(
         4,
         ONE,
         TABLE,
         [0x2780_6001, 0x0300_0040, 0, 0x2000_0000],
         SECTOR,
     ),
-    Writes(PX_SACT, 0x10),
-    Writes(PX_CI, 0x10),
     Does(4),
     Row::Answered(0x41, 4, 0, 0),
     Reads(PX_IS, 0x4000_0001),
@@ -208,8 +195,7 @@ const HIGH_SLOTS: &[Row] = &[
 /// Entries behind the data are read with the last 32 at most: those behind them lie in no memory.
 const UNREAD: &[Row] = &[
     Fills(DATA, 512, 0xAA),
-    Lays(0, 0x0040_0005, 0xFD80, READ_DMA, These(&[(DATA, 512)])),
-    Writes(PX_CI, 1),
+    Issues(0, 0x0040_0005, 0xFD80, READ_DMA, These(&[(DATA, 512)])),
     Does(0),
     Reads(PX_IS, 1),
     Reads(PX_CI, 0),

@@ -1,7 +1,7 @@
 //! Stories of the logs (ACS-3, "General Purpose Log directory" and "IDENTIFY DEVICE data log").
 
 use crate::tests::player::Pieces::These;
-use crate::tests::player::Row::{Does, Fills, Has, HasAll, Lays, Reads, Steps, Writes};
+use crate::tests::player::Row::{Does, Fills, Has, HasAll, Issues, Lays, Reads, Steps, Writes};
 use crate::tests::player::{Row, Story, plays};
 use crate::tests::registers::{PX_CI, PX_IS, PX_TFD};
 use crate::tests::settings::{DATA, IDENTIFY, LIST, MEMORY, ONE, RECEIVED, SECTOR, START, TABLE};
@@ -16,8 +16,7 @@ const HOSTS: &[u8] = &[
 
 /// The directory, by PIO and by DMA: logs 03h, 07h, 10h and 11h of one page, log 04h of two, log 30h of seven, logs 80h to 9Fh of 16.
 const DIRECTORY: &[Row] = &[
-    Lays(0, ONE, TABLE, [0x2780_2F00, 0, 0, 0x0100_0000], SECTOR),
-    Writes(PX_CI, 1),
+    Issues(0, ONE, TABLE, [0x2780_2F00, 0, 0, 0x0100_0000], SECTOR),
     Does(0),
     Reads(PX_IS, 2),
     Has(DATA, &[1, 0, 0, 0, 0, 0, 1, 0, 2, 0, 0, 0, 0, 0, 1, 0]),
@@ -30,8 +29,7 @@ const DIRECTORY: &[Row] = &[
     HasAll(DATA + 0x140, 0xC0, 0),
     Fills(DATA, 512, 0xEE),
     Writes(PX_IS, 0xFFFF_FFFF),
-    Lays(0, ONE, TABLE, [0x2780_4700, 0, 0, 0x0100_0000], SECTOR),
-    Writes(PX_CI, 1),
+    Issues(0, ONE, TABLE, [0x2780_4700, 0, 0, 0x0100_0000], SECTOR),
     Does(0),
     Reads(PX_IS, 1),
     Has(DATA + 0x60, &[7, 0]),
@@ -40,8 +38,7 @@ const DIRECTORY: &[Row] = &[
 
 /// The words of IDENTIFY DEVICE that speak of logs: 84 and 87 (bits 0, 1 and 5), 86 (bit 15), 119 and 120 (bits 2 and 3).
 const WORDS: &[Row] = &[
-    Lays(0, ONE, TABLE, IDENTIFY, SECTOR),
-    Writes(PX_CI, 1),
+    Issues(0, ONE, TABLE, IDENTIFY, SECTOR),
     Does(0),
     Has(DATA + 2 * 84, &[0x63, 0x41]),
     Has(DATA + 2 * 86, &[0x00, 0xB4, 0x63, 0x41]),
@@ -52,14 +49,13 @@ const WORDS: &[Row] = &[
 const SUPPORTED: &[Row] = &[
     Fills(DATA, 512, 0xEE),
     Writes(PX_IS, 0xFFFF_FFFF),
-    Lays(
+    Issues(
         0,
         ONE,
         TABLE,
         [0x2780_2F00, 0x3000_0000, 0, 0x0100_0000],
         SECTOR,
     ),
-    Writes(PX_CI, 1),
     Does(0),
     Reads(PX_IS, 2),
     Reads(PX_TFD, 0x40),
@@ -80,14 +76,13 @@ const NAME_IN_LOG: &[u8] = &[0x99, 0xC9, 0x33, 0x3C, 0xCA, 0x9A, 0xDC, 0x35];
 /// Page 01h: what IDENTIFY DEVICE reads, of 8 sectors and 32 tags.
 const COPY: &[Row] = &[
     Fills(DATA, 512, 0xEE),
-    Lays(
+    Issues(
         0,
         ONE,
         TABLE,
         [0x2780_2F00, 0x3001_0000, 0, 0x0100_0000],
         SECTOR,
     ),
-    Writes(PX_CI, 1),
     Does(0),
     Has(DATA + 2 * 27, b"OSTFAWER"),
     Has(DATA + 2 * 60, &[8, 0, 0, 0]),
@@ -102,14 +97,13 @@ const COPY: &[Row] = &[
 /// Page 02h: 8 sectors, of 512 bytes each.
 const CAPACITY: &[Row] = &[
     Fills(DATA, 512, 0xEE),
-    Lays(
+    Issues(
         0,
         ONE,
         TABLE,
         [0x2780_2F00, 0x3002_0000, 0, 0x0100_0000],
         SECTOR,
     ),
-    Writes(PX_CI, 1),
     Does(0),
     Has(DATA, &[1, 0, 2, 0, 0, 0, 0, 0x80]),
     Has(DATA + 8, &[8, 0, 0, 0, 0, 0, 0, 0x80]),
@@ -152,14 +146,13 @@ const ALL_BY_PIO: &[Row] = &[
 const TWO_BY_DMA: &[Row] = &[
     Fills(DATA, 0x1000, 0xEE),
     Writes(PX_IS, 0xFFFF_FFFF),
-    Lays(
+    Issues(
         0,
         ONE,
         TABLE,
         [0x2780_4700, 0x3001_0000, 0, 0x0200_0000],
         These(&[(DATA, 1024)]),
     ),
-    Writes(PX_CI, 1),
     Does(0),
     Row::Answered(0x40, 0, 0, 0),
     Reads(PX_IS, 1),
@@ -173,14 +166,13 @@ const TWO_BY_DMA: &[Row] = &[
 /// Pages 03h to 06h by DMA, each with its header.
 const THE_OTHERS: &[Row] = &[
     Fills(DATA, 0x1000, 0xEE),
-    Lays(
+    Issues(
         0,
         ONE,
         TABLE,
         [0x2780_4700, 0x3003_0000, 0, 0x0400_0000],
         These(&[(DATA, 2048)]),
     ),
-    Writes(PX_CI, 1),
     Does(0),
     Row::Answered(0x40, 0, 0, 0),
     Has(LIST + 4, &[0, 8, 0, 0]),

@@ -2,10 +2,10 @@
 
 use crate::tests::player::Pieces::These;
 use crate::tests::player::Row::{
-    Answered, Does, Fills, Has, HasAll, Last, Lays, Reads, Sector, Writes,
+    Answered, Does, Fills, Has, HasAll, Issues, Last, Queues, Reads, Sector, Writes,
 };
 use crate::tests::player::{Pieces, Player, Row, Story, equal, plays};
-use crate::tests::registers::{GHC, PX_CI, PX_SACT, PX_TFD};
+use crate::tests::registers::{GHC, PX_SACT, PX_TFD};
 use crate::tests::settings::{
     DATA, LIST, MEMORY, NO_PIECES, NONE, ONE, OTHER, READ, READ_DMA, READ_LOG, RECEIVED, RESTART,
     SECTOR, START, TABLE, WRITE,
@@ -20,12 +20,9 @@ const FLAGGED: [u32; 4] = [0x2780_45AA, 0x0300_0040, 0, 0x0100_0000];
 
 const MARKED: &[Row] = &[
     Fills(DATA, 512, 0xAA),
-    Lays(1, ONE, OTHER, WRITE, SECTOR),
-    Writes(PX_SACT, 2),
-    Writes(PX_CI, 2),
+    Queues(1, ONE, OTHER, WRITE, SECTOR),
     Does(1),
-    Lays(0, NONE, TABLE, PSEUDO, NO_PIECES),
-    Writes(PX_CI, 1),
+    Issues(0, NONE, TABLE, PSEUDO, NO_PIECES),
     Does(0),
     Answered(0x40, 0, 0, 0),
     Sector(3, 0xAA),
@@ -36,14 +33,13 @@ const FOUR: Pieces = These(&[(DATA, 2048)]);
 /// READ DMA EXT of the sectors at LBA 1 to 4: those before LBA 3 move.
 const READ_AROUND: &[Row] = &[
     Fills(DATA, 2048, 0x55),
-    Lays(
+    Issues(
         0,
         ONE,
         TABLE,
         [0x2780_2500, 0x0100_0040, 0, 0x0400_0000],
         FOUR,
     ),
-    Writes(PX_CI, 1),
     Does(0),
     Answered(0x41, 0x40, 3, 0),
     Reads(PX_TFD, 0x4041),
@@ -53,9 +49,7 @@ const READ_AROUND: &[Row] = &[
 ];
 
 const READ_QUEUED: &[Row] = &[
-    Lays(1, ONE, OTHER, READ, SECTOR),
-    Writes(PX_SACT, 2),
-    Writes(PX_CI, 2),
+    Queues(1, ONE, OTHER, READ, SECTOR),
     Does(1),
     Reads(PX_TFD, 0x4041),
     Reads(PX_SACT, 2),
@@ -68,22 +62,20 @@ const READ_QUEUED: &[Row] = &[
 ];
 
 const LOGGED: &[Row] = &[
-    Lays(0, ONE, TABLE, READ_LOG, SECTOR),
-    Writes(PX_CI, 1),
+    Issues(0, ONE, TABLE, READ_LOG, SECTOR),
     Does(0),
     Has(DATA, &[1, 0, 0x41, 0x40, 3]),
 ];
 
 /// READ SECTOR(S), by PIO.
 const READ_PIO: &[Row] = &[
-    Lays(
+    Issues(
         0,
         ONE,
         TABLE,
         [0x2780_2000, 0x0300_0040, 0, 0x0100_0000],
         SECTOR,
     ),
-    Writes(PX_CI, 1),
     Does(0),
     Answered(0x41, 0x40, 3, 0),
 ];
@@ -92,14 +84,13 @@ const RESET: &[Row] = &[Writes(GHC, 0x8000_0001)];
 
 /// READ VERIFY SECTOR(S) still fails there.
 const VERIFIED: &[Row] = &[
-    Lays(
+    Issues(
         0,
         NONE,
         TABLE,
         [0x2780_4000, 0x0200_0040, 0, 0x0600_0000],
         NO_PIECES,
     ),
-    Writes(PX_CI, 1),
     Does(0),
     Answered(0x41, 0x40, 3, 0),
 ];
@@ -107,38 +98,31 @@ const VERIFIED: &[Row] = &[
 /// A write that is not queued, and a read of what it has written.
 const WRITTEN: &[Row] = &[
     Fills(DATA, 512, 0xBB),
-    Lays(
+    Issues(
         0,
         ONE,
         TABLE,
         [0x2780_CA00, 0x0300_0040, 0, 0x0100_0000],
         SECTOR,
     ),
-    Writes(PX_CI, 1),
     Does(0),
     Answered(0x40, 0, 0, 0),
     Fills(DATA, 512, 0),
-    Lays(0, ONE, TABLE, READ_DMA, SECTOR),
-    Writes(PX_CI, 1),
+    Issues(0, ONE, TABLE, READ_DMA, SECTOR),
     Does(0),
     HasAll(DATA, 512, 0xBB),
 ];
 
 /// The same of a queued write and a queued read.
 const QUEUED: &[Row] = &[
-    Lays(0, NONE, TABLE, FLAGGED, NO_PIECES),
-    Writes(PX_CI, 1),
+    Issues(0, NONE, TABLE, FLAGGED, NO_PIECES),
     Does(0),
     Answered(0x40, 0, 0, 0),
     Fills(DATA, 512, 0xCC),
-    Lays(1, ONE, OTHER, WRITE, SECTOR),
-    Writes(PX_SACT, 2),
-    Writes(PX_CI, 2),
+    Queues(1, ONE, OTHER, WRITE, SECTOR),
     Does(1),
     Fills(DATA, 512, 0),
-    Lays(1, ONE, OTHER, READ, SECTOR),
-    Writes(PX_SACT, 2),
-    Writes(PX_CI, 2),
+    Queues(1, ONE, OTHER, READ, SECTOR),
     Does(1),
     HasAll(DATA, 512, 0xCC),
     Reads(PX_SACT, 0),
@@ -187,52 +171,46 @@ fn a_marked_sector_stays_marked_over_power_on(rt: HostRuntime) -> Result<(), Fai
 
 /// WRITE UNCORRECTABLE EXT of 64 sectors, of one more, and of some of the 64 again.
 const ROOM: &[Row] = &[
-    Lays(
+    Issues(
         0,
         NONE,
         TABLE,
         [0x2780_4555, 0x0000_0040, 0, 0x4000_0000],
         NO_PIECES,
     ),
-    Writes(PX_CI, 1),
     Does(0),
     Answered(0x40, 0, 0, 0),
-    Lays(
+    Issues(
         0,
         NONE,
         TABLE,
         [0x2780_4555, 0x0800_0040, 0, 0x1000_0000],
         NO_PIECES,
     ),
-    Writes(PX_CI, 1),
     Does(0),
     Answered(0x40, 0, 0, 0),
-    Lays(
+    Issues(
         0,
         NONE,
         TABLE,
         [0x2780_4555, 0x4000_0040, 0, 0x0100_0000],
         NO_PIECES,
     ),
-    Writes(PX_CI, 1),
     Does(0),
     Answered(0x41, 4, 0, 0),
 ];
 
 /// Once one of them is written there is room for another one.
 const AGAIN: &[Row] = &[
-    Lays(1, ONE, OTHER, WRITE, SECTOR),
-    Writes(PX_SACT, 2),
-    Writes(PX_CI, 2),
+    Queues(1, ONE, OTHER, WRITE, SECTOR),
     Does(1),
-    Lays(
+    Issues(
         0,
         NONE,
         TABLE,
         [0x2780_4555, 0x4000_0040, 0, 0x0100_0000],
         NO_PIECES,
     ),
-    Writes(PX_CI, 1),
     Does(0),
     Answered(0x40, 0, 0, 0),
 ];

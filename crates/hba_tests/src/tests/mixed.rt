@@ -1,8 +1,8 @@
 //! A command that is not queued comes while queued ones are outstanding (ACS-3, "Native Command Queuing" and "NCQ Command Error log").
 
 use crate::tests::player::Row::{
-    Answered, Does, Fetches, Fills, Has, HasAll, Lays, Reads, ReadsBits, Refuses, Sector, Takes,
-    Writes,
+    Answered, Does, Fetches, Fills, Has, HasAll, Issues, Queues, Reads, ReadsBits, Refuses, Sector,
+    Takes, Writes,
 };
 use crate::tests::player::{Row, Story, plays};
 use crate::tests::registers::{PX_CI, PX_IS, PX_SACT, PX_TFD};
@@ -16,13 +16,10 @@ use std::test::Fail;
 /// A queued write is outstanding, and a read that is not queued is aborted with ERR: the port halts. Neither command moves its data.
 const MIXED: &[Row] = &[
     Fills(DATA, 512, 0xAA),
-    Lays(1, ONE, OTHER, WRITE, SECTOR),
-    Writes(PX_SACT, 2),
-    Writes(PX_CI, 2),
+    Queues(1, ONE, OTHER, WRITE, SECTOR),
     Takes(1),
     Reads(PX_CI, 0),
-    Lays(0, ONE, TABLE, READ_DMA, SECTOR),
-    Writes(PX_CI, 1),
+    Issues(0, ONE, TABLE, READ_DMA, SECTOR),
     Does(0),
     Answered(0x41, 4, 0, 0),
     Reads(PX_TFD, 0x441),
@@ -37,17 +34,14 @@ const MIXED: &[Row] = &[
 
 /// All other commands are aborted, queued ones too, since log 10h is to be read.
 const ALONE_ABORTED: &[Row] = &[
-    Lays(0, ONE, TABLE, IDENTIFY, SECTOR),
-    Writes(PX_CI, 1),
+    Issues(0, ONE, TABLE, IDENTIFY, SECTOR),
     Does(0),
     Answered(0x41, 4, 0, 0),
     HasAll(DATA, 512, 0xAA),
 ];
 
 const QUEUED_ABORTED: &[Row] = &[
-    Lays(1, ONE, OTHER, READ, SECTOR),
-    Writes(PX_SACT, 2),
-    Writes(PX_CI, 2),
+    Queues(1, ONE, OTHER, READ, SECTOR),
     Does(1),
     Answered(0x41, 4, 0, 0),
     Reads(PX_SACT, 2),
@@ -57,8 +51,7 @@ const QUEUED_ABORTED: &[Row] = &[
 
 /// Log 10h: NQ, the status and the error of the command that was not queued. After it NQ alone.
 const LOG: &[Row] = &[
-    Lays(0, ONE, TABLE, READ_LOG, SECTOR),
-    Writes(PX_CI, 1),
+    Issues(0, ONE, TABLE, READ_LOG, SECTOR),
     Does(0),
     Reads(PX_CI, 0),
     Has(DATA, &[0x80, 0, 0x41, 0x04, 0, 0, 0, 0]),
@@ -76,15 +69,12 @@ const LOG_AGAIN: &[Row] = &[
 /// Commands of both kinds are done again.
 const GOES_ON: &[Row] = &[
     Fills(DATA, 512, 0xAA),
-    Lays(1, ONE, OTHER, WRITE, SECTOR),
-    Writes(PX_SACT, 2),
-    Writes(PX_CI, 2),
+    Queues(1, ONE, OTHER, WRITE, SECTOR),
     Does(1),
     Reads(PX_SACT, 0),
     Sector(3, 0xAA),
     Fills(DATA, 512, 0),
-    Lays(0, ONE, TABLE, READ_DMA, SECTOR),
-    Writes(PX_CI, 1),
+    Issues(0, ONE, TABLE, READ_DMA, SECTOR),
     Does(0),
     Answered(0x40, 0, 0, 0),
     HasAll(DATA, 512, 0xAA),
@@ -92,20 +82,16 @@ const GOES_ON: &[Row] = &[
 
 /// A command that is ended with another error has it in the log.
 const MIXED_OTHERWISE: &[Row] = &[
-    Lays(1, ONE, OTHER, READ, SECTOR),
-    Writes(PX_SACT, 2),
-    Writes(PX_CI, 2),
+    Queues(1, ONE, OTHER, READ, SECTOR),
     Takes(1),
-    Lays(0, ONE, TABLE, READ_DMA, SECTOR),
-    Writes(PX_CI, 1),
+    Issues(0, ONE, TABLE, READ_DMA, SECTOR),
     Fetches(0),
     Refuses(0, 0x84, 3),
     Answered(0x41, 0x84, 3, 0),
 ];
 
 const OTHER_LOG: &[Row] = &[
-    Lays(0, ONE, TABLE, READ_LOG, SECTOR),
-    Writes(PX_CI, 1),
+    Issues(0, ONE, TABLE, READ_LOG, SECTOR),
     Does(0),
     Has(DATA, &[0x80, 0, 0x41, 0x84, 0, 0, 0, 0]),
     Has(DATA + 511, &[0xBB]),
@@ -113,12 +99,9 @@ const OTHER_LOG: &[Row] = &[
 
 /// The same without a change of a sector, for what is asked before.
 const MIXED_AGAIN: &[Row] = &[
-    Lays(1, ONE, OTHER, READ, SECTOR),
-    Writes(PX_SACT, 2),
-    Writes(PX_CI, 2),
+    Queues(1, ONE, OTHER, READ, SECTOR),
     Takes(1),
-    Lays(0, ONE, TABLE, READ_DMA, SECTOR),
-    Writes(PX_CI, 1),
+    Issues(0, ONE, TABLE, READ_DMA, SECTOR),
     Does(0),
     Answered(0x41, 4, 0, 0),
 ];
@@ -155,27 +138,22 @@ static STORY: Story = Story {
 
 /// A queued command whose tag the disk hasn't is aborted beside another queued one, and is no command that isn't queued: the disk goes on.
 const TAG_PAST_THE_DEPTH: &[Row] = &[
-    Lays(1, ONE, OTHER, READ, SECTOR),
-    Writes(PX_SACT, 2),
-    Writes(PX_CI, 2),
+    Queues(1, ONE, OTHER, READ, SECTOR),
     Takes(1),
-    Lays(
+    Queues(
         9,
         ONE,
         TABLE,
         [0x2780_6001, 0x0300_0040, 0, 0x4800_0000],
         SECTOR,
     ),
-    Writes(PX_SACT, 0x200),
-    Writes(PX_CI, 0x200),
     Does(9),
     Answered(0x41, 4, 0, 0),
     Reads(PX_CI, 0x200),
 ];
 
 const NOTHING_PENDING: &[Row] = &[
-    Lays(0, ONE, TABLE, READ_LOG, SECTOR),
-    Writes(PX_CI, 1),
+    Issues(0, ONE, TABLE, READ_LOG, SECTOR),
     Does(0),
     Has(DATA, &[0x80, 0, 0, 0, 0, 0, 0, 0]),
     Has(DATA + 511, &[0x80]),

@@ -2,7 +2,9 @@
 
 use crate::tests::blocks::{FILLED, SERVED, THREE};
 use crate::tests::player::Pieces::These;
-use crate::tests::player::Row::{Does, Fills, Has, HasAll, Lays, Reads, Sector, Steps, Writes};
+use crate::tests::player::Row::{
+    Does, Fills, Has, HasAll, Issues, Lays, Reads, Sector, Steps, Writes,
+};
 use crate::tests::player::{Row, Story, plays};
 use crate::tests::registers::{PX_CI, PX_IS, PX_TFD};
 use crate::tests::resets::SOFTWARE_RESET;
@@ -14,8 +16,7 @@ use std::test::Fail;
 
 /// IDENTIFY DEVICE: a block has 16 sectors at most (word 47), and none is set (word 59). Ultra DMA mode 5 is selected (words 63 and 88).
 const UNSET: &[Row] = &[
-    Lays(0, ONE, TABLE, IDENTIFY, SECTOR),
-    Writes(PX_CI, 1),
+    Issues(0, ONE, TABLE, IDENTIFY, SECTOR),
     Does(0),
     Has(DATA + 2 * 47, &[0x10, 0x80]),
     Has(DATA + 2 * 59, &[0, 0]),
@@ -26,14 +27,13 @@ const UNSET: &[Row] = &[
 /// While none is set, READ MULTIPLE is aborted, and WRITE MULTIPLE changes no sector.
 const READ_ABORTED: &[Row] = &[
     Fills(DATA, 512, 0xEE),
-    Lays(
+    Issues(
         0,
         ONE,
         TABLE,
         [0x2780_C400, 0x0200_0040, 0, 0x0100_0000],
         SECTOR,
     ),
-    Writes(PX_CI, 1),
     Does(0),
     Row::Answered(0x41, 4, 0, 0),
     Reads(PX_CI, 1),
@@ -41,14 +41,13 @@ const READ_ABORTED: &[Row] = &[
 ];
 
 const WRITE_ABORTED: &[Row] = &[
-    Lays(
+    Issues(
         0,
         ONE,
         TABLE,
         [0x2780_C500, 0x0200_0040, 0, 0x0100_0000],
         SECTOR,
     ),
-    Writes(PX_CI, 1),
     Does(0),
     Row::Answered(0x41, 4, 0, 0),
     Sector(2, 0),
@@ -56,21 +55,19 @@ const WRITE_ABORTED: &[Row] = &[
 
 /// SET MULTIPLE MODE of two sectors, which word 59 shows.
 const SETS_TWO: &[Row] = &[
-    Lays(
+    Issues(
         0,
         NONE,
         TABLE,
         [0x2780_C600, 0xA0, 0, 0x0200_0000],
         NO_PIECES,
     ),
-    Writes(PX_CI, 1),
     Does(0),
     Row::Answered(0x40, 0, 0, 0),
 ];
 
 const HAS_TWO: &[Row] = &[
-    Lays(0, ONE, TABLE, IDENTIFY, SECTOR),
-    Writes(PX_CI, 1),
+    Issues(0, ONE, TABLE, IDENTIFY, SECTOR),
     Does(0),
     Has(DATA + 2 * 59, &[2, 1]),
 ];
@@ -158,14 +155,13 @@ const BLOCKS_IN: &[Row] = &[
 /// READ MULTIPLE past the last sector: a block of two sectors, and one of the last one; then the FIS with IDNF.
 const READ_PAST: &[Row] = &[
     Fills(DATA, 2048, 0xAA),
-    Lays(
+    Issues(
         0,
         ONE,
         TABLE,
         [0x2780_C400, 0x0500_0040, 0, 0x0400_0000],
         These(&[(DATA, 2048)]),
     ),
-    Writes(PX_CI, 1),
     Does(0),
     Row::Answered(0x41, 0x10, 8, 0),
     Reads(PX_CI, 1),
@@ -177,24 +173,22 @@ const READ_PAST: &[Row] = &[
 
 /// Blocks of 16 sectors at most: WRITE MULTIPLE FUA EXT and READ MULTIPLE EXT of eight sectors have one block of 4,096 bytes, and so has WRITE MULTIPLE EXT.
 const SETS_SIXTEEN: &[Row] = &[
-    Lays(
+    Issues(
         0,
         NONE,
         TABLE,
         [0x2780_C600, 0xA0, 0, 0x1000_0000],
         NO_PIECES,
     ),
-    Writes(PX_CI, 1),
     Does(0),
     Fills(DATA, 4096, 0x44),
-    Lays(
+    Issues(
         0,
         0x0001_0045,
         TABLE,
         [0x2780_CE00, 0x0000_0040, 0, 0x0800_0000],
         These(&[(DATA, 4096)]),
     ),
-    Writes(PX_CI, 1),
     Does(0),
     Row::Answered(0x40, 0, 0, 0),
     Has(
@@ -206,26 +200,24 @@ const SETS_SIXTEEN: &[Row] = &[
     Sector(0, 0x44),
     Sector(7, 0x44),
     Fills(DATA, 4096, 0x55),
-    Lays(
+    Issues(
         0,
         0x0001_0045,
         TABLE,
         [0x2780_3900, 0x0600_0040, 0, 0x0200_0000],
         These(&[(DATA, 1024)]),
     ),
-    Writes(PX_CI, 1),
     Does(0),
     Has(RECEIVED + 0x2F, &[0xC0, 0, 4]),
     Sector(5, 0x44),
     Sector(6, 0x55),
-    Lays(
+    Issues(
         0,
         ONE,
         TABLE,
         [0x2780_2900, 0x0000_0040, 0, 0x0800_0000],
         These(&[(DATA, 4096)]),
     ),
-    Writes(PX_CI, 1),
     Does(0),
     Reads(PX_CI, 0),
     Has(RECEIVED + 0x2F, &[0x40, 0, 0x10]),
@@ -235,29 +227,25 @@ const SETS_SIXTEEN: &[Row] = &[
 
 /// SET FEATURES 03h selects multiword DMA mode 2, and CCh says that a software reset reverts to the defaults.
 const REVERTS: &[Row] = &[
-    Lays(
+    Issues(
         0,
         NONE,
         TABLE,
         [0x2780_EF03, 0xA0, 0, 0x2200_0000],
         NO_PIECES,
     ),
-    Writes(PX_CI, 1),
     Does(0),
-    Lays(0, ONE, TABLE, IDENTIFY, SECTOR),
-    Writes(PX_CI, 1),
+    Issues(0, ONE, TABLE, IDENTIFY, SECTOR),
     Does(0),
     Has(DATA + 2 * 63, &[7, 4]),
     Has(DATA + 2 * 88, &[0x3F, 0]),
-    Lays(0, NONE, TABLE, [0x2780_EFCC, 0xA0, 0, 0], NO_PIECES),
-    Writes(PX_CI, 1),
+    Issues(0, NONE, TABLE, [0x2780_EFCC, 0xA0, 0, 0], NO_PIECES),
     Does(0),
 ];
 
 /// SET MULTIPLE MODE of none disables the commands.
 const SETS_NONE: &[Row] = &[
-    Lays(0, NONE, TABLE, [0x2780_C600, 0xA0, 0, 0], NO_PIECES),
-    Writes(PX_CI, 1),
+    Issues(0, NONE, TABLE, [0x2780_C600, 0xA0, 0, 0], NO_PIECES),
     Does(0),
     Row::Answered(0x40, 0, 0, 0),
 ];

@@ -1,7 +1,7 @@
 //! What a driver, its disk and its memory do, as the rows of a table.
 
 use crate::tests::guest::{Guest, Stretch, end, settle, slot_of, step, take};
-use crate::tests::registers::{PX_CLB, PX_CLBU, PX_FB, PX_FBU};
+use crate::tests::registers::{PX_CI, PX_CLB, PX_CLBU, PX_FB, PX_FBU, PX_SACT};
 use ahci_hba::{AccessSize, Capabilities, Hba};
 use ahci_port::{EventKind, TrimFault};
 use std::alloc::{Allocator, Global};
@@ -31,6 +31,10 @@ pub enum Row {
     /// The driver lays out a command (AHCI 1.3.1, sections 4.2.2 and 4.2.3): its slot, dword 0 of the header, the table's address, bytes 0 to
     /// 15 of the command FIS, four of them in a word and the first one uppermost, and the PRDT.
     Lays(u8, u32, u64, [u32; 4], Pieces),
+    /// The driver lays out a command as `Lays` does, and sets the bit of its slot in PxCI (AHCI 1.3.1, section 5.5.1).
+    Issues(u8, u32, u64, [u32; 4], Pieces),
+    /// The same of a queued command, whose bit of PxSACT the driver sets first.
+    Queues(u8, u32, u64, [u32; 4], Pieces),
     /// The driver puts so many bytes of one value at an address.
     Fills(u64, u32, u8),
     /// The disk sends its signature.
@@ -142,6 +146,26 @@ fn lay_header(guest: &mut Guest, at: u64, word: u32, table: u64) {
     let _ = guest.put(at.wrapping_add(8), &table.to_le_bytes());
 }
 
+/// Lays out the command of a slot: dword 0 of its header with the address of its table, its command FIS and its PRDT.
+fn lay<A: Allocator + Copy>(
+    hba: &Hba<A>,
+    guest: &mut Guest,
+    slot: u8,
+    header: (u32, u64),
+    fis: [u32; 4],
+    pieces: Pieces,
+) {
+    let (word, table) = header;
+    let at = list_at(hba).wrapping_add(32 * u64::from(slot));
+    lay_header(guest, at, word, table);
+    lay_table(guest, table, fis, pieces);
+}
+
+/// The bit of a slot.
+fn bit_of(slot: u8) -> u32 {
+    1u32.wrapping_shl(u32::from(slot))
+}
+
 /// Puts so many bytes of one value at an address.
 fn fill(guest: &mut Guest, at: u64, count: u32, byte: u8) {
     for number in 0..u64::from(count) {
@@ -173,9 +197,16 @@ pub fn acts<A: Allocator + Copy>(hba: &mut Hba<A>, guest: &mut Guest, row: Row) 
     match row {
         Row::Writes(offset, value) => write(hba, offset, value),
         Row::Lays(slot, word, table, fis, pieces) => {
-            let at = list_at(hba).wrapping_add(32 * u64::from(slot));
-            lay_header(guest, at, word, table);
-            lay_table(guest, table, fis, pieces);
+            lay(hba, guest, slot, (word, table), fis, pieces);
+        }
+        Row::Issues(slot, word, table, fis, pieces) => {
+            lay(hba, guest, slot, (word, table), fis, pieces);
+            write(hba, PX_CI, bit_of(slot));
+        }
+        Row::Queues(slot, word, table, fis, pieces) => {
+            lay(hba, guest, slot, (word, table), fis, pieces);
+            write(hba, PX_SACT, bit_of(slot));
+            write(hba, PX_CI, bit_of(slot));
         }
         Row::Fills(at, count, byte) => fill(guest, at, count, byte),
         Row::Signs => {

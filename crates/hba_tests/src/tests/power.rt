@@ -1,6 +1,8 @@
 //! Stories of the power modes (ACS-3, "Power Management feature set", and the commands by their titles).
 
-use crate::tests::player::Row::{Does, Fills, HasAll, Lays, Reads, ReadsBits, Writes};
+use crate::tests::player::Row::{
+    Does, Fills, HasAll, Issues, Lays, Queues, Reads, ReadsBits, Writes,
+};
 use crate::tests::player::{Player, Row, Story, plays};
 use crate::tests::registers::{PX_CI, PX_CMD, PX_IS, PX_SACT, PX_TFD};
 use crate::tests::resets::{HBA_RESET, SOFTWARE_RESET};
@@ -109,8 +111,7 @@ static MODES: [(&str, [u32; 4], u8, u8); 32] = [
 /// Plays CHECK POWER MODE, which answers this count.
 fn tells(rt: &impl Abort, player: &mut Player, name: &'static str, count: u8) {
     let rows = [
-        Lays(0, NONE, OTHER, CHECK_POWER_MODE, NO_PIECES),
-        Writes(PX_CI, 1),
+        Issues(0, NONE, OTHER, CHECK_POWER_MODE, NO_PIECES),
         Does(0),
         Row::Answered(0x40, 0, 0, count),
     ];
@@ -144,8 +145,7 @@ fn the_power_mode_is_told_after_each_command(rt: HostRuntime) -> Result<(), Fail
 
 /// SLEEP is answered.
 const SLEEPS: &[Row] = &[
-    Lays(0, NONE, TABLE, [0x2780_E600, 0, 0, 0], NO_PIECES),
-    Writes(PX_CI, 1),
+    Issues(0, NONE, TABLE, [0x2780_E600, 0, 0, 0], NO_PIECES),
     Does(0),
     Row::Answered(0x40, 0, 0, 0),
     Reads(PX_TFD, 0x40),
@@ -157,8 +157,7 @@ const SLEEPS: &[Row] = &[
 const UNANSWERED: &[Row] = &[
     Fills(RECEIVED, 256, 0xEE),
     Fills(DATA, 512, 0xAA),
-    Lays(0, ONE, TABLE, IDENTIFY, SECTOR),
-    Writes(PX_CI, 1),
+    Issues(0, ONE, TABLE, IDENTIFY, SECTOR),
     Does(0),
     Reads(PX_CI, 1),
     ReadsBits(PX_TFD, 0x89, 0x80),
@@ -171,9 +170,7 @@ const UNANSWERED: &[Row] = &[
 const QUEUED_UNANSWERED: &[Row] = &[
     Fills(RECEIVED, 256, 0xEE),
     Fills(DATA, 512, 0xAA),
-    Lays(1, ONE, OTHER, READ, SECTOR),
-    Writes(PX_SACT, 2),
-    Writes(PX_CI, 2),
+    Queues(1, ONE, OTHER, READ, SECTOR),
     Does(1),
     Reads(PX_SACT, 2),
     Reads(PX_CI, 2),
@@ -192,22 +189,19 @@ const CLEARED: &[Row] = &[
 ];
 
 const GOES_TO_STANDBY: &[Row] = &[
-    Lays(0, NONE, TABLE, STANDBY, NO_PIECES),
-    Writes(PX_CI, 1),
+    Issues(0, NONE, TABLE, STANDBY, NO_PIECES),
     Does(0),
     Row::Answered(0x40, 0, 0, 0),
 ];
 
 const IS_IN_STANDBY: &[Row] = &[
-    Lays(0, NONE, TABLE, CHECK_POWER_MODE, NO_PIECES),
-    Writes(PX_CI, 1),
+    Issues(0, NONE, TABLE, CHECK_POWER_MODE, NO_PIECES),
     Does(0),
     Row::Answered(0x40, 0, 0, 0x00),
 ];
 
 const IS_NOT_IN_STANDBY: &[Row] = &[
-    Lays(0, NONE, TABLE, CHECK_POWER_MODE, NO_PIECES),
-    Writes(PX_CI, 1),
+    Issues(0, NONE, TABLE, CHECK_POWER_MODE, NO_PIECES),
     Does(0),
     Row::Answered(0x40, 0, 0, 0xFF),
 ];
@@ -215,9 +209,7 @@ const IS_NOT_IN_STANDBY: &[Row] = &[
 /// A queued read that is answered.
 const ANSWERED: &[Row] = &[
     Fills(DATA, 512, 0xAA),
-    Lays(1, ONE, OTHER, READ, SECTOR),
-    Writes(PX_SACT, 2),
-    Writes(PX_CI, 2),
+    Queues(1, ONE, OTHER, READ, SECTOR),
     Does(1),
     Reads(PX_SACT, 0),
     HasAll(DATA, 512, 0),

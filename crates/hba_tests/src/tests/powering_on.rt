@@ -1,7 +1,7 @@
 //! Power-on of a controller that a driver uses, at different moments.
 
 use crate::tests::player::Row::{
-    Answered, Does, Fails, Fetches, Fills, HasAll, Interrupt, Lays, Reads, Sector, Takes, Writes,
+    Answered, Does, Fails, Fetches, Fills, HasAll, Interrupt, Issues, Queues, Reads, Sector, Takes,
 };
 use crate::tests::player::{Player, Row, equal};
 use crate::tests::registers::{
@@ -20,41 +20,28 @@ const CHECK_POWER_MODE: [u32; 4] = [0x2780_E500, 0, 0, 0];
 /// A write that the disk has taken.
 const TAKEN: &[Row] = &[
     Fills(DATA, 512, 0xAA),
-    Lays(1, ONE, OTHER, WRITE, SECTOR),
-    Writes(PX_SACT, 2),
-    Writes(PX_CI, 2),
+    Queues(1, ONE, OTHER, WRITE, SECTOR),
     Takes(1),
 ];
 
 /// A read that has failed, and whose log is not read.
 const FAILED: &[Row] = &[
-    Lays(1, ONE, OTHER, READ, SECTOR),
-    Writes(PX_SACT, 2),
-    Writes(PX_CI, 2),
+    Queues(1, ONE, OTHER, READ, SECTOR),
     Takes(1),
     Fails(1, 0x40, 3),
     Reads(PX_TFD, 0x4041),
 ];
 
 /// A write that was read from memory and not sent.
-const FETCHED: &[Row] = &[
-    Lays(1, ONE, OTHER, WRITE, SECTOR),
-    Writes(PX_SACT, 2),
-    Writes(PX_CI, 2),
-    Fetches(1),
-];
+const FETCHED: &[Row] = &[Queues(1, ONE, OTHER, WRITE, SECTOR), Fetches(1)];
 
 /// A write that is done, and a disk in Standby.
 const DONE: &[Row] = &[
-    Lays(1, ONE, OTHER, WRITE, SECTOR),
-    Writes(PX_SACT, 2),
-    Writes(PX_CI, 2),
+    Queues(1, ONE, OTHER, WRITE, SECTOR),
     Does(1),
-    Lays(0, NONE, TABLE, STANDBY_IMMEDIATE, NO_PIECES),
-    Writes(PX_CI, 1),
+    Issues(0, NONE, TABLE, STANDBY_IMMEDIATE, NO_PIECES),
     Does(0),
-    Lays(0, NONE, TABLE, CHECK_POWER_MODE, NO_PIECES),
-    Writes(PX_CI, 1),
+    Issues(0, NONE, TABLE, CHECK_POWER_MODE, NO_PIECES),
     Does(0),
     Answered(0x40, 0, 0, 0),
 ];
@@ -79,12 +66,10 @@ const NEW: &[Row] = &[
 
 /// The disk is Active, and has what was written.
 const GOES_ON: &[Row] = &[
-    Lays(0, NONE, TABLE, CHECK_POWER_MODE, NO_PIECES),
-    Writes(PX_CI, 1),
+    Issues(0, NONE, TABLE, CHECK_POWER_MODE, NO_PIECES),
     Does(0),
     Answered(0x40, 0, 0, 0xFF),
-    Lays(0, ONE, TABLE, READ_DMA, SECTOR),
-    Writes(PX_CI, 1),
+    Issues(0, ONE, TABLE, READ_DMA, SECTOR),
     Does(0),
     HasAll(DATA, 512, 0xAA),
 ];

@@ -3,7 +3,8 @@
 use crate::tests::fatal::GOES_ON;
 use crate::tests::player::Pieces::These;
 use crate::tests::player::Row::{
-    Does, Fails, Fetches, Fills, HasAll, Interrupt, Lays, Reads, Refuses, Steps, Takes, Writes,
+    Does, Fails, Fetches, Fills, HasAll, Interrupt, Issues, Lays, Queues, Reads, Refuses, Steps,
+    Takes, Writes,
 };
 use crate::tests::player::{Row, Story, plays};
 use crate::tests::registers::{IS, PX_CI, PX_IE, PX_IS, PX_SACT};
@@ -65,9 +66,7 @@ const NOT_WHOLE: &[Row] = &[
 
 /// Queued, in both directions.
 const QUEUED: &[Row] = &[
-    Lays(1, ONE, OTHER, READ, These(&[(DATA, 0x8000_0200)])),
-    Writes(PX_SACT, 2),
-    Writes(PX_CI, 2),
+    Queues(1, ONE, OTHER, READ, These(&[(DATA, 0x8000_0200)])),
     Does(1),
     Reads(PX_IS, 0x28),
     Writes(PX_IS, 0x28),
@@ -83,9 +82,7 @@ const QUEUED: &[Row] = &[
     Does(1),
     Reads(PX_IS, 0x28),
     Writes(PX_IS, 0x28),
-    Lays(1, ONE, OTHER, WRITE, These(&[(DATA, 0x8000_0202)])),
-    Writes(PX_SACT, 2),
-    Writes(PX_CI, 2),
+    Queues(1, ONE, OTHER, WRITE, These(&[(DATA, 0x8000_0202)])),
     Does(1),
     Reads(PX_IS, 8),
     Writes(PX_IS, 8),
@@ -93,36 +90,33 @@ const QUEUED: &[Row] = &[
 
 /// WRITE DMA, WRITE BUFFER DMA and READ BUFFER.
 const NOT_QUEUED: &[Row] = &[
-    Lays(
+    Issues(
         0,
         ONE,
         TABLE,
         [0x2780_CA00, 0x0300_0040, 0, 0x0100_0000],
         These(&[(DATA, 0x8000_0200)]),
     ),
-    Writes(PX_CI, 1),
     Does(0),
     Reads(PX_IS, 0x21),
     Writes(PX_IS, 0x21),
-    Lays(
+    Issues(
         0,
         ONE,
         TABLE,
         [0x2780_EB00, 0, 0, 0],
         These(&[(DATA, 0x8000_0200)]),
     ),
-    Writes(PX_CI, 1),
     Does(0),
     Reads(PX_IS, 0x21),
     Writes(PX_IS, 0x21),
-    Lays(
+    Issues(
         0,
         ONE,
         TABLE,
         [0x2780_E400, 0, 0, 0],
         These(&[(DATA, 0x8000_0200)]),
     ),
-    Writes(PX_CI, 1),
     Does(0),
     Reads(PX_IS, 0x22),
     Writes(PX_IS, 0x22),
@@ -182,8 +176,7 @@ const BY_BLOCKS: &[Row] = &[
 
 /// A list that is too short is filled, and so its entry has moved whole.
 const FILLED: &[Row] = &[
-    Lays(0, ONE, TABLE, READ_DMA, These(&[(DATA, 0x8000_0100)])),
-    Writes(PX_CI, 1),
+    Issues(0, ONE, TABLE, READ_DMA, These(&[(DATA, 0x8000_0100)])),
     Does(0),
     Reads(PX_IS, 0x0100_0021),
     Writes(PX_IS, 0x0100_0021),

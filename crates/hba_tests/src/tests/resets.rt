@@ -1,7 +1,7 @@
 //! Stories of resets: of the link, of the HBA, and by software; and of registers that stay as they are.
 
 use crate::tests::player::Row::{
-    Does, Fills, HasAll, Lays, Reads, ReadsBits, Sector, Signs, Takes, Writes,
+    Does, Fills, HasAll, Issues, Lays, Reads, ReadsBits, Sector, Signs, Takes, Writes,
 };
 use crate::tests::player::{Row, Story, plays};
 use crate::tests::registers::{
@@ -65,8 +65,7 @@ const LINK_UP: &[Row] = &[
 /// A command after that.
 const GOES_ON: &[Row] = &[
     Fills(DATA, 512, 0xAA),
-    Lays(0, ONE, TABLE, READ_DMA, SECTOR),
-    Writes(PX_CI, 1),
+    Issues(0, ONE, TABLE, READ_DMA, SECTOR),
     Does(0),
     Reads(PX_CI, 0),
     HasAll(DATA, 512, 0),
@@ -113,19 +112,17 @@ pub const HBA_RESET: &[Row] = &[
 
 /// A control FIS with SRST, one without, and the signature (AHCI 1.3.1, section 10.4.1).
 pub const SOFTWARE_RESET: &[Row] = &[
-    Lays(
+    Issues(
         0,
         NONE | 0x500,
         TABLE,
         [0x2700_0000, 0, 0, 0x0000_0004],
         NO_PIECES,
     ),
-    Writes(PX_CI, 1),
     Does(0),
     ReadsBits(PX_TFD, 0x88, 0),
     Reads(PX_CI, 0),
-    Lays(0, NONE, TABLE, [0x2700_0000, 0, 0, 0], NO_PIECES),
-    Writes(PX_CI, 1),
+    Issues(0, NONE, TABLE, [0x2700_0000, 0, 0, 0], NO_PIECES),
     Does(0),
     ReadsBits(PX_TFD, 0x80, 0x80),
     Reads(PX_CI, 1),

@@ -2,7 +2,9 @@
 
 use crate::tests::fatal::GOES_ON;
 use crate::tests::player::Pieces::These;
-use crate::tests::player::Row::{Does, Fills, Has, HasAll, Lays, Reads, ReadsBits, Writes};
+use crate::tests::player::Row::{
+    Does, Fills, Has, HasAll, Issues, Queues, Reads, ReadsBits, Writes,
+};
 use crate::tests::player::{Row, Story, plays};
 use crate::tests::registers::{PX_CI, PX_IS, PX_SACT, PX_TFD};
 use crate::tests::settings::{
@@ -13,9 +15,7 @@ use std::test::Fail;
 /// A read whose list is too short: the list is filled, OFS is set, and the port goes on, since OFS is no fatal error (sections 6.1.5 and 6.2.1).
 const TOO_SHORT: &[Row] = &[
     Fills(DATA, 512, 0xAA),
-    Lays(1, ONE, OTHER, READ, These(&[(DATA, 256)])),
-    Writes(PX_SACT, 2),
-    Writes(PX_CI, 2),
+    Queues(1, ONE, OTHER, READ, These(&[(DATA, 256)])),
     Does(1),
     Reads(PX_SACT, 0),
     Reads(PX_CI, 0),
@@ -28,8 +28,7 @@ const TOO_SHORT: &[Row] = &[
 
 const TOO_SHORT_BY_DMA: &[Row] = &[
     Fills(DATA, 512, 0xAA),
-    Lays(0, ONE, TABLE, READ_DMA, These(&[(DATA, 256)])),
-    Writes(PX_CI, 1),
+    Issues(0, ONE, TABLE, READ_DMA, These(&[(DATA, 256)])),
     Does(0),
     Reads(PX_CI, 0),
     ReadsBits(PX_TFD, 0x89, 0),
@@ -41,8 +40,7 @@ const TOO_SHORT_BY_DMA: &[Row] = &[
 ];
 
 const NO_ROOM: &[Row] = &[
-    Lays(0, 5, TABLE, READ_DMA, SECTOR),
-    Writes(PX_CI, 1),
+    Issues(0, 5, TABLE, READ_DMA, SECTOR),
     Does(0),
     Reads(PX_CI, 0),
     Reads(PX_IS, 0x0100_0001),
@@ -53,14 +51,13 @@ const NO_ROOM: &[Row] = &[
 /// By PIO the first block moves, half of the second one, and none of the third.
 const TOO_SHORT_BY_PIO: &[Row] = &[
     Fills(DATA, 1024, 0xAA),
-    Lays(
+    Issues(
         0,
         ONE,
         TABLE,
         [0x2780_2000, 0x0300_0040, 0, 0x0300_0000],
         These(&[(DATA, 768)]),
     ),
-    Writes(PX_CI, 1),
     Does(0),
     Reads(PX_CI, 0),
     ReadsBits(PX_TFD, 0x89, 0),

@@ -2,8 +2,8 @@
 //! leave a choice.
 
 use crate::tests::player::Row::{
-    Answered, Does, Fails, Fetches, Fills, Has, HasAll, Interrupt, Lays, Reads, Refuses, Sector,
-    Signs, Takes, Writes,
+    Answered, Does, Fails, Fetches, Fills, Has, HasAll, Interrupt, Issues, Queues, Reads, Refuses,
+    Sector, Signs, Takes, Writes,
 };
 use crate::tests::player::{Row, Story, plays};
 use crate::tests::registers::{
@@ -35,8 +35,7 @@ const FIRST_STEPS: &[Row] = &[
     Writes(PX_IS, 0xFFFF_FFFF),
     Writes(PX_IE, 0x7800_002F),
     Writes(PX_CMD, 0x11),
-    Lays(0, ONE, TABLE, IDENTIFY, SECTOR),
-    Writes(PX_CI, 1),
+    Issues(0, ONE, TABLE, IDENTIFY, SECTOR),
     Does(0),
     Reads(PX_CI, 0),
     Reads(PX_TFD, 0x40),
@@ -51,17 +50,14 @@ const FIRST_STEPS: &[Row] = &[
 
 const WRITTEN_AND_READ: &[Row] = &[
     Fills(DATA, 512, 0xAA),
-    Lays(1, ONE, OTHER, WRITE, SECTOR),
-    Writes(PX_SACT, 2),
-    Writes(PX_CI, 2),
+    Queues(1, ONE, OTHER, WRITE, SECTOR),
     Does(1),
     Reads(PX_SACT, 0),
     Reads(PX_CI, 0),
     Reads(PX_IS, 8),
     Has(RECEIVED + 0x58, &[0xA1, 0x40, 0x40, 0, 2, 0, 0, 0]),
     Fills(DATA, 1024, 0),
-    Lays(0, ONE, TABLE, READ_DMA, SECTOR),
-    Writes(PX_CI, 1),
+    Issues(0, ONE, TABLE, READ_DMA, SECTOR),
     Does(0),
     HasAll(DATA, 512, 0xAA),
     HasAll(DATA + 512, 512, 0),
@@ -72,9 +68,7 @@ const WRITTEN_AND_READ: &[Row] = &[
 
 const DROPPED: &[Row] = &[
     Fills(DATA, 512, 0xAA),
-    Lays(1, ONE, OTHER, WRITE, SECTOR),
-    Writes(PX_SACT, 2),
-    Writes(PX_CI, 2),
+    Queues(1, ONE, OTHER, WRITE, SECTOR),
     Takes(1),
     Reads(PX_SACT, 2),
     Reads(PX_CI, 0),
@@ -90,9 +84,7 @@ const DROPPED: &[Row] = &[
 
 /// UNC in a queue, ST cleared and set, and the log.
 const FAILED: &[Row] = &[
-    Lays(1, ONE, OTHER, READ, SECTOR),
-    Writes(PX_SACT, 2),
-    Writes(PX_CI, 2),
+    Queues(1, ONE, OTHER, READ, SECTOR),
     Takes(1),
     Fails(1, 0x40, 3),
     Reads(PX_TFD, 0x4041),
@@ -103,9 +95,7 @@ const FAILED: &[Row] = &[
 
 /// While the log is not read, any other command is aborted, a queued one too.
 const ABORTED: &[Row] = &[
-    Lays(1, ONE, OTHER, READ, SECTOR),
-    Writes(PX_SACT, 2),
-    Writes(PX_CI, 2),
+    Queues(1, ONE, OTHER, READ, SECTOR),
     Does(1),
     Answered(0x41, 4, 0, 0),
     Reads(PX_TFD, 0x441),
@@ -113,8 +103,7 @@ const ABORTED: &[Row] = &[
     Writes(PX_CMD, 0x10),
     Writes(PX_IS, 0xFFFF_FFFF),
     Writes(PX_CMD, 0x11),
-    Lays(0, ONE, TABLE, READ_DMA, SECTOR),
-    Writes(PX_CI, 1),
+    Issues(0, ONE, TABLE, READ_DMA, SECTOR),
     Does(0),
     Reads(PX_TFD, 0x441),
     Reads(PX_IS, 0x4000_0001),
@@ -122,8 +111,7 @@ const ABORTED: &[Row] = &[
 
 /// The disk fails the command that reads the log. The log can be read later.
 const NO_LOG: &[Row] = &[
-    Lays(0, ONE, TABLE, READ_LOG, SECTOR),
-    Writes(PX_CI, 1),
+    Issues(0, ONE, TABLE, READ_LOG, SECTOR),
     Fetches(0),
     Refuses(0, 4, 0),
     Answered(0x41, 4, 0, 0),
@@ -134,8 +122,7 @@ const NO_LOG: &[Row] = &[
 /// IPS stays while PxIS has an enabled bit, and the line follows it and GHC.IE (AHCI 1.3.1, section 10.7).
 const INTERRUPTS: &[Row] = &[
     Writes(PX_IE, 0),
-    Lays(0, ONE, TABLE, READ_DMA, SECTOR),
-    Writes(PX_CI, 1),
+    Issues(0, ONE, TABLE, READ_DMA, SECTOR),
     Does(0),
     Reads(PX_IS, 1),
     Reads(IS, 0),
@@ -160,21 +147,18 @@ const INTERRUPTS: &[Row] = &[
 ];
 
 const LOGGED: &[Row] = &[
-    Lays(0, ONE, TABLE, READ_LOG, SECTOR),
-    Writes(PX_CI, 1),
+    Issues(0, ONE, TABLE, READ_LOG, SECTOR),
     Does(0),
     Has(DATA, &[1, 0, 0x41, 0x40, 3, 0, 0, 0]),
     Has(DATA + 511, &[0x7B]),
     Reads(PX_IS, 2),
     // and the disk goes on
-    Lays(0, ONE, TABLE, READ_DMA, SECTOR),
-    Writes(PX_CI, 1),
+    Issues(0, ONE, TABLE, READ_DMA, SECTOR),
     Does(0),
     Reads(PX_TFD, 0x40),
     Reads(PX_CI, 0),
     // there is no failure any more: NQ is 1
-    Lays(0, ONE, TABLE, READ_LOG, SECTOR),
-    Writes(PX_CI, 1),
+    Issues(0, ONE, TABLE, READ_LOG, SECTOR),
     Does(0),
     Has(DATA, &[0x80, 0, 0, 0]),
     Has(DATA + 511, &[0x80]),

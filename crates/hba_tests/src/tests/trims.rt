@@ -1,10 +1,10 @@
 //! A journal that is trimmed while a driver goes on. A command that moves sectors makes four entries: issue, accept, complete, collect.
 
 use crate::tests::player::Row::{
-    Does, Fails, Fetches, Fills, Has, HasAll, Lays, Reads, Sector, Takes, Writes,
+    Does, Fails, Fetches, Fills, Has, HasAll, Issues, Queues, Reads, Sector, Takes, Writes,
 };
 use crate::tests::player::{Player, Row, equal};
-use crate::tests::registers::{GHC, PX_CI, PX_SACT, PX_TFD};
+use crate::tests::registers::{GHC, PX_SACT, PX_TFD};
 use crate::tests::settings::{
     DATA, MEMORY, ONE, OTHER, READ, READ_DMA, READ_LOG, RESTART, SECTOR, START, TABLE, WRITE,
 };
@@ -19,33 +19,20 @@ const SECOND: [u32; 4] = [0x2780_6101, 0x0500_0040, 0, 0x1000_0000];
 /// A queued command and one that is not queued.
 const WRITTEN: &[Row] = &[
     Fills(DATA, 512, 0xAA),
-    Lays(1, ONE, OTHER, WRITE, SECTOR),
-    Writes(PX_SACT, 2),
-    Writes(PX_CI, 2),
+    Queues(1, ONE, OTHER, WRITE, SECTOR),
     Does(1),
     Fills(DATA, 512, 0xBB),
-    Lays(0, ONE, TABLE, WRITE_DMA, SECTOR),
-    Writes(PX_CI, 1),
+    Issues(0, ONE, TABLE, WRITE_DMA, SECTOR),
     Does(0),
     Sector(3, 0xAA),
     Sector(4, 0xBB),
 ];
 
 /// A queued read that the disk has taken.
-const TAKEN: &[Row] = &[
-    Lays(1, ONE, OTHER, READ, SECTOR),
-    Writes(PX_SACT, 2),
-    Writes(PX_CI, 2),
-    Takes(1),
-];
+const TAKEN: &[Row] = &[Queues(1, ONE, OTHER, READ, SECTOR), Takes(1)];
 
 /// Another command that is read and not sent.
-const WAITING: &[Row] = &[
-    Lays(2, ONE, TABLE, SECOND, SECTOR),
-    Writes(PX_SACT, 4),
-    Writes(PX_CI, 4),
-    Fetches(2),
-];
+const WAITING: &[Row] = &[Queues(2, ONE, TABLE, SECOND, SECTOR), Fetches(2)];
 
 /// The first of them ends, and reads what was written before the trim.
 const ENDED: &[Row] = &[Does(1), HasAll(DATA, 512, 0xAA), Reads(PX_SACT, 4)];
@@ -63,24 +50,21 @@ const FAILED: &[Row] = &[Fails(1, 0x40, 3), Reads(PX_TFD, 0x4041)];
 
 /// The log is read, which resets the port.
 const LOGGED: &[Row] = &[
-    Lays(0, ONE, TABLE, READ_LOG, SECTOR),
-    Writes(PX_CI, 1),
+    Issues(0, ONE, TABLE, READ_LOG, SECTOR),
     Does(0),
     Has(DATA, &[1, 0, 0x41, 0x40, 3]),
 ];
 
 /// A reset of the HBA leaves the journal of a port without requests.
 const RESET: &[Row] = &[
-    Lays(0, ONE, TABLE, READ_DMA, SECTOR),
-    Writes(PX_CI, 1),
+    Issues(0, ONE, TABLE, READ_DMA, SECTOR),
     Does(0),
     HasAll(DATA, 512, 0xAA),
     Writes(GHC, 0x8000_0001),
 ];
 
 const READ_AGAIN: &[Row] = &[
-    Lays(0, ONE, TABLE, READ_DMA, SECTOR),
-    Writes(PX_CI, 1),
+    Issues(0, ONE, TABLE, READ_DMA, SECTOR),
     Does(0),
     HasAll(DATA, 512, 0xAA),
     Sector(4, 0xBB),
