@@ -1,10 +1,10 @@
 //! Commands that move no data, and how each is answered (ACS-3, by their titles).
 
 use crate::tests::player::Row::{Does, Has, Issues, Reads, Refuses};
-use crate::tests::player::{Player, Row, Story, plays};
+use crate::tests::player::{Player, Row};
 use crate::tests::registers::{PX_CI, PX_IS, PX_TFD};
 use crate::tests::settings::{
-    MEMORY, NO_PIECES, NONE, ONE, RECEIVED, RESTART, SECTOR, START, TABLE,
+    MEMORY, NO_PIECES, NONE, ONE, RECEIVED, RESTART, SECTOR, START, SmallStory, TABLE, play_small,
 };
 use std::process::Abort;
 use std::test::Fail;
@@ -334,12 +334,9 @@ const FLUSH_FAILS_EXT: &[Row] = &[
     Has(LBA, &[7, 0, 0, 0, 3, 0, 0]),
 ];
 
-static FAR: Story = Story {
-    name: "LBAs of more than 24 bits",
-    sectors: 8,
-    depth: 32,
-    memory: MEMORY,
-    parts: &[
+static FAR: SmallStory = (
+    "LBAs of more than 24 bits",
+    &[
         START,
         READ_FAR,
         RESTART,
@@ -351,9 +348,9 @@ static FAR: Story = Story {
         RESTART,
         FLUSH_FAILS_EXT,
     ],
-};
+);
 
 #[test]
 fn an_error_names_an_lba_as_its_command_does(rt: HostRuntime) -> Result<(), Fail> {
-    plays(&rt, rt.alloc(), &FAR)
+    play_small(&rt, rt.alloc(), &[FAR])
 }

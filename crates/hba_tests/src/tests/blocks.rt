@@ -2,15 +2,22 @@
 
 use crate::tests::player::Pieces::These;
 use crate::tests::player::Row::{
-    Does, Fills, Has, HasAll, Lays, Reads, ReadsBits, Sector, Steps, Writes,
+    Does, Fills, Has, HasAll, Lays, PioSetup, Reads, ReadsBits, Sector, Steps, StepsBy, Writes,
 };
-use crate::tests::player::{Pieces, Row, Story, plays};
+use crate::tests::player::{Pieces, Row};
 use crate::tests::registers::{PX_CI, PX_CMD, PX_IS, PX_TFD};
-use crate::tests::settings::{COMRESET, DATA, LIST, MEMORY, RECEIVED, START, TABLE};
+use crate::tests::settings::{
+    COMRESET, DATA, LIST, RECEIVED, START, SmallStory, TABLE, play_small,
+};
 use std::test::Fail;
 
 /// Three sectors, in two pieces: the second sector lies in both.
 pub const THREE: Pieces = These(&[(DATA, 700), (DATA + 0x800, 836)]);
+
+/// WRITE SECTOR(S) and READ SECTOR(S) of three sectors from LBA 2 on.
+const WRITE_SECTORS: [u32; 4] = [0x2780_3000, 0x0200_0040, 0, 0x0300_0000];
+
+const READ_SECTORS: [u32; 4] = [0x2780_2000, 0x0200_0040, 0, 0x0300_0000];
 
 pub const FILLED: &[Row] = &[
     Fills(DATA, 512, 0x11),
@@ -24,11 +31,7 @@ pub const FILLED: &[Row] = &[
 /// The command is read, sent, taken and served; no FIS has come.
 pub const SERVED: &[Row] = &[
     Writes(PX_CI, 1),
-    Steps(0),
-    Steps(0),
-    Steps(0),
-    Steps(0),
-    Steps(0),
+    StepsBy(0, 5),
     ReadsBits(PX_TFD, 0x89, 0x80),
     Reads(PX_IS, 0),
     Reads(PX_CI, 1),
@@ -36,23 +39,12 @@ pub const SERVED: &[Row] = &[
     HasAll(RECEIVED, 256, 0xEE),
 ];
 
-const WRITTEN: &[Row] = &[Lays(
-    0,
-    0x0002_0045,
-    TABLE,
-    [0x2780_3000, 0x0200_0040, 0, 0x0300_0000],
-    THREE,
-)];
+const WRITTEN: &[Row] = &[Lays(0, 0x0002_0045, TABLE, WRITE_SECTORS, THREE)];
 
 /// WRITE SECTOR(S): a PIO Setup FIS for each block, the first one with no I, and a D2H Register FIS behind the last one.
 const BLOCKS_OUT: &[Row] = &[
     Steps(0),
-    Has(
-        RECEIVED + 0x20,
-        &[
-            0x5F, 0x00, 0x48, 0, 0, 0, 0, 0, 0, 0, 0, 0, 0, 0, 0, 0xC0, 0, 2, 0, 0,
-        ],
-    ),
+    PioSetup(0x00, 0xC0, 512),
     Reads(PX_TFD, 0xC0),
     Reads(PX_IS, 0),
     Reads(PX_CI, 1),
@@ -72,6 +64,10 @@ const BLOCKS_OUT: &[Row] = &[
     Row::Answered(0x40, 0, 0, 0),
     Reads(PX_TFD, 0x40),
     Reads(PX_IS, 1),
+];
+
+/// The three sectors are written, and those beside them are not.
+pub const THREE_WRITTEN: &[Row] = &[
     Reads(PX_CI, 0),
     Has(LIST + 4, &[0, 6, 0, 0]),
     Sector(1, 0),
@@ -81,28 +77,18 @@ const BLOCKS_OUT: &[Row] = &[
     Sector(5, 0),
 ];
 
-const READ: &[Row] = &[
+pub const EMPTIED: &[Row] = &[
     Fills(DATA, 0x1000, 0xEE),
     Fills(RECEIVED, 256, 0xEE),
     Writes(PX_IS, 0xFFFF_FFFF),
-    Lays(
-        0,
-        0x0002_0005,
-        TABLE,
-        [0x2780_2000, 0x0200_0040, 0, 0x0300_0000],
-        THREE,
-    ),
 ];
 
-/// READ SECTOR(S): for each block a PIO Setup FIS with I, its bytes, PRDBC and PSS. E_Status of the last one ends the command.
+const READ: &[Row] = &[Lays(0, 0x0002_0005, TABLE, READ_SECTORS, THREE)];
+
+/// READ SECTOR(S): for each block a PIO Setup FIS with I, its bytes, PRDBC and PSS.
 const BLOCKS_IN: &[Row] = &[
     Steps(0),
-    Has(
-        RECEIVED + 0x20,
-        &[
-            0x5F, 0x60, 0x48, 0, 0, 0, 0, 0, 0, 0, 0, 0, 0, 0, 0, 0xC0, 0, 2, 0, 0,
-        ],
-    ),
+    PioSetup(0x60, 0xC0, 512),
     Reads(PX_TFD, 0xC0),
     Reads(PX_IS, 2),
     Reads(PX_CI, 1),
@@ -125,6 +111,10 @@ const BLOCKS_IN: &[Row] = &[
     HasAll(DATA + 0x944, 512, 0xEE),
     Writes(PX_IS, 2),
     Steps(0),
+];
+
+/// The last block has one sector. E_Status of its PIO Setup FIS ends the command, with no D2H Register FIS.
+pub const LAST_READ: &[Row] = &[
     Has(RECEIVED + 0x2F, &[0x40, 0, 2]),
     Reads(PX_TFD, 0x40),
     Reads(PX_IS, 2),
@@ -152,18 +142,32 @@ const AGAIN: &[Row] = &[
     HasAll(DATA + 0x944, 512, 0x33),
 ];
 
-static STORY: Story = Story {
-    name: "transfers by PIO",
-    sectors: 8,
-    depth: 32,
-    memory: MEMORY,
-    parts: &[
-        START, FILLED, WRITTEN, SERVED, BLOCKS_OUT, READ, SERVED, BLOCKS_IN, READ, SERVED, STOPPED,
-        COMRESET, READ, AGAIN,
+static STORY: SmallStory = (
+    "transfers by PIO",
+    &[
+        START,
+        FILLED,
+        WRITTEN,
+        SERVED,
+        BLOCKS_OUT,
+        THREE_WRITTEN,
+        EMPTIED,
+        READ,
+        SERVED,
+        BLOCKS_IN,
+        LAST_READ,
+        EMPTIED,
+        READ,
+        SERVED,
+        STOPPED,
+        COMRESET,
+        EMPTIED,
+        READ,
+        AGAIN,
     ],
-};
+);
 
 #[test]
 fn a_command_by_pio_moves_block_by_block(rt: HostRuntime) -> Result<(), Fail> {
-    plays(&rt, rt.alloc(), &STORY)
+    play_small(&rt, rt.alloc(), &[STORY])
 }

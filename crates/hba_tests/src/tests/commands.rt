@@ -5,11 +5,11 @@ use crate::tests::player::Row::{
     Does, Fills, Has, HasAll, Issues, Last, Queues, Reads, ReadsBits, Refuses, Sector, Takes,
     Writes,
 };
-use crate::tests::player::{Pieces, Player, Row, Story, plays};
+use crate::tests::player::{Pieces, Player, Row};
 use crate::tests::registers::{PX_CI, PX_CMD, PX_IS, PX_SACT, PX_TFD};
 use crate::tests::settings::{
     DATA, IDENTIFY, LIST, MEMORY, NO_PIECES, NONE, ONE, OTHER, READ, READ_DMA, READ_LOG, RECEIVED,
-    RESTART, SECTOR, START, TABLE,
+    RESTART, SECTOR, START, SmallStory, TABLE, play_small,
 };
 use ahci_port::{EventKind, Plain};
 use std::process::Abort;
@@ -314,12 +314,9 @@ const NOT_RECEIVED: &[Row] = &[
     HasAll(DATA, 512, 0),
 ];
 
-static FAILING: Story = Story {
-    name: "commands that fail",
-    sectors: 8,
-    depth: 32,
-    memory: MEMORY,
-    parts: &[
+static FAILING: SmallStory = (
+    "commands that fail",
+    &[
         START,
         NOT_RECEIVED,
         RESTART,
@@ -347,11 +344,11 @@ static FAILING: Story = Story {
         RESTART,
         QUEUED_BEYOND,
     ],
-};
+);
 
 #[test]
 fn a_read_that_fails_moves_what_comes_before_and_a_write_nothing(
     rt: HostRuntime,
 ) -> Result<(), Fail> {
-    plays(&rt, rt.alloc(), &FAILING)
+    play_small(&rt, rt.alloc(), &[FAILING])
 }

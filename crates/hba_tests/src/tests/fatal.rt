@@ -1,13 +1,14 @@
 //! Stories of what ends a command in a fatal error (AHCI 1.3.1, section 6.1).
 
 use crate::tests::player::Pieces::These;
+use crate::tests::player::Row;
 use crate::tests::player::Row::{
-    Does, Fills, Has, HasAll, Issues, Lays, Reads, ReadsBits, Sector, Writes,
+    Does, Fills, Has, HasAll, Issues, Lays, Queues, Reads, ReadsBits, Sector, Writes,
 };
-use crate::tests::player::{Row, Story, plays};
 use crate::tests::registers::{PX_CI, PX_IS, PX_SACT, PX_TFD};
 use crate::tests::settings::{
-    COMRESET, DATA, LIST, MEMORY, ONE, OTHER, READ, READ_DMA, RESTART, SECTOR, START, TABLE, WRITE,
+    COMRESET, DATA, LIST, ONE, OTHER, READ, READ_DMA, RESTART, SECTOR, START, SmallStory, TABLE,
+    WRITE, play_small,
 };
 use std::test::Fail;
 
@@ -53,15 +54,13 @@ const HOST_BUS_FATAL: &[Row] = &[Reads(PX_IS, 0x2000_0000)];
 /// The first piece of a read is written, and the other one is no memory.
 const NO_PLACE: &[Row] = &[
     Fills(DATA, 512, 0xAA),
-    Lays(
+    Queues(
         1,
         0x0002_0005,
         OTHER,
         READ,
         These(&[(DATA, 256), (0x1_0000, 256)]),
     ),
-    Writes(PX_SACT, 2),
-    Writes(PX_CI, 2),
     Does(1),
     Reads(PX_SACT, 2),
     Reads(PX_IS, 0x2000_0000),
@@ -81,12 +80,9 @@ pub const GOES_ON: &[Row] = &[
 ];
 
 /// Commands that end in a fatal error, one after the other.
-static FATAL: Story = Story {
-    name: "fatal errors",
-    sectors: 8,
-    depth: 32,
-    memory: MEMORY,
-    parts: &[
+static FATAL: SmallStory = (
+    "fatal errors",
+    &[
         START,
         NO_ENTRIES,
         COMES_TO_NOTHING,
@@ -122,9 +118,9 @@ static FATAL: Story = Story {
         RESTART,
         GOES_ON,
     ],
-};
+);
 
 #[test]
 fn a_fatal_error_halts_the_port(rt: HostRuntime) -> Result<(), Fail> {
-    plays(&rt, rt.alloc(), &FATAL)
+    play_small(&rt, rt.alloc(), &[FATAL])
 }

@@ -2,12 +2,13 @@
 
 use crate::tests::player::Pieces::These;
 use crate::tests::player::Row::{
-    Answered, Does, Fetches, Fills, Has, HasAll, Issues, Reads, Steps, Writes,
+    Answered, Does, Fetches, Fills, Has, HasAll, Issues, PioSetup, Reads, Steps, Writes,
 };
-use crate::tests::player::{Pieces, Row, Story, plays};
+use crate::tests::player::{Pieces, Row};
 use crate::tests::registers::{GHC, PX_CI, PX_IS, PX_TFD};
 use crate::tests::settings::{
-    COMRESET, DATA, LIST, MEMORY, NO_PIECES, NONE, ONE, RECEIVED, RESTART, SECTOR, START, TABLE,
+    COMRESET, DATA, LIST, NO_PIECES, NONE, ONE, RECEIVED, RESTART, SECTOR, START, SmallStory,
+    TABLE, play_small,
 };
 use std::test::Fail;
 
@@ -35,12 +36,7 @@ const BEGUN: &[Row] = &[
     Steps(0),
     Reads(PX_CI, 1),
     Steps(0),
-    Has(
-        RECEIVED + 0x20,
-        &[
-            0x5F, 0x00, 0x48, 0, 0, 0, 0, 0, 0, 0, 0, 0, 0, 0, 0, 0xC0, 0, 2, 0, 0,
-        ],
-    ),
+    PioSetup(0x00, 0xC0, 512),
     Reads(PX_TFD, 0xC0),
     Reads(PX_IS, 0),
 ];
@@ -188,12 +184,9 @@ const KEPT: &[Row] = &[
     HasAll(DATA + 1536, 512, 0),
 ];
 
-static STORY: Story = Story {
-    name: "the host's logs",
-    sectors: 8,
-    depth: 32,
-    memory: MEMORY,
-    parts: &[
+static STORY: SmallStory = (
+    "the host's logs",
+    &[
         START,
         READ,
         ZEROS,
@@ -222,9 +215,9 @@ static STORY: Story = Story {
         READ,
         KEPT,
     ],
-};
+);
 
 #[test]
 fn what_the_host_writes_to_its_logs_is_read_and_stays(rt: HostRuntime) -> Result<(), Fail> {
-    plays(&rt, rt.alloc(), &STORY)
+    play_small(&rt, rt.alloc(), &[STORY])
 }

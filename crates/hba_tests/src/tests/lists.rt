@@ -3,7 +3,7 @@
 use crate::tests::guest::Stretch;
 use crate::tests::player::Pieces::{Down, These, Up};
 use crate::tests::player::Row::{
-    Does, Fills, Has, HasAll, Issues, Lays, Queues, Reads, Sector, Signs, Writes,
+    Does, Fills, Has, HasAll, Issues, Queues, Reads, Sector, Signs, Writes,
 };
 use crate::tests::player::{Row, Story, plays};
 use crate::tests::registers::{
@@ -205,7 +205,7 @@ const UNREAD: &[Row] = &[
 /// A list with more entries, and more bytes in its last one, than the command's sector.
 const SPARE: &[Row] = &[
     Fills(DATA, 0x800, 0xEE),
-    Lays(
+    Queues(
         1,
         0x0004_0005,
         OTHER,
@@ -217,8 +217,6 @@ const SPARE: &[Row] = &[
             (0xFFFF_0000, 512),
         ]),
     ),
-    Writes(PX_SACT, 2),
-    Writes(PX_CI, 2),
     Does(1),
     Reads(PX_SACT, 0),
     Reads(PX_IS, 0x28),

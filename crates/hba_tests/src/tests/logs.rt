@@ -1,10 +1,12 @@
 //! Stories of the logs (ACS-3, "General Purpose Log directory" and "IDENTIFY DEVICE data log").
 
 use crate::tests::player::Pieces::These;
-use crate::tests::player::Row::{Does, Fills, Has, HasAll, Issues, Lays, Reads, Steps, Writes};
-use crate::tests::player::{Row, Story, plays};
+use crate::tests::player::Row;
+use crate::tests::player::Row::{Does, Fills, Has, HasAll, Issues, Reads, Steps, Writes};
 use crate::tests::registers::{PX_CI, PX_IS, PX_TFD};
-use crate::tests::settings::{DATA, IDENTIFY, LIST, MEMORY, ONE, RECEIVED, SECTOR, START, TABLE};
+use crate::tests::settings::{
+    DATA, IDENTIFY, LIST, ONE, RECEIVED, SECTOR, START, SmallStory, TABLE, play_small,
+};
 use std::test::Fail;
 
 /// Logs 80h to 9Fh, which are the host's, of 16 pages each.
@@ -115,14 +117,13 @@ const CAPACITY: &[Row] = &[
 const ALL_BY_PIO: &[Row] = &[
     Fills(DATA, 0x1000, 0xEE),
     Writes(PX_IS, 0xFFFF_FFFF),
-    Lays(
+    Issues(
         0,
         0x0002_0005,
         TABLE,
         [0x2780_2F00, 0x3000_0000, 0, 0x0300_0000],
         These(&[(DATA, 700), (DATA + 700, 836)]),
     ),
-    Writes(PX_CI, 1),
     Steps(0),
     Steps(0),
     Steps(0),
@@ -202,18 +203,15 @@ const THE_OTHERS: &[Row] = &[
     HasAll(DATA + 2048, 512, 0xEE),
 ];
 
-static READING: Story = Story {
-    name: "logs are read",
-    sectors: 8,
-    depth: 32,
-    memory: MEMORY,
-    parts: &[
+static READING: SmallStory = (
+    "logs are read",
+    &[
         START, DIRECTORY, WORDS, SUPPORTED, COPY, CAPACITY, ALL_BY_PIO, TWO_BY_DMA, THE_OTHERS,
         SUPPORTED,
     ],
-};
+);
 
 #[test]
 fn the_logs_that_the_directory_names_are_read(rt: HostRuntime) -> Result<(), Fail> {
-    plays(&rt, rt.alloc(), &READING)
+    play_small(&rt, rt.alloc(), &[READING])
 }

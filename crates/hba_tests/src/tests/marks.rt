@@ -8,7 +8,7 @@ use crate::tests::player::{Pieces, Player, Row, Story, equal, plays};
 use crate::tests::registers::{GHC, PX_SACT, PX_TFD};
 use crate::tests::settings::{
     DATA, LIST, MEMORY, NO_PIECES, NONE, ONE, OTHER, READ, READ_DMA, READ_LOG, RECEIVED, RESTART,
-    SECTOR, START, TABLE, WRITE,
+    SECTOR, START, SmallStory, TABLE, WRITE, play_small,
 };
 use ahci_port::EventKind;
 use std::test::Fail;
@@ -128,12 +128,9 @@ const QUEUED: &[Row] = &[
     Reads(PX_SACT, 0),
 ];
 
-static MARKS: Story = Story {
-    name: "a sector is marked uncorrectable",
-    sectors: 8,
-    depth: 32,
-    memory: MEMORY,
-    parts: &[
+static MARKS: SmallStory = (
+    "a sector is marked uncorrectable",
+    &[
         START,
         MARKED,
         READ_AROUND,
@@ -150,11 +147,11 @@ static MARKS: Story = Story {
         WRITTEN,
         QUEUED,
     ],
-};
+);
 
 #[test]
 fn a_read_fails_at_a_marked_sector_until_it_is_written(rt: HostRuntime) -> Result<(), Fail> {
-    plays(&rt, rt.alloc(), &MARKS)
+    play_small(&rt, rt.alloc(), &[MARKS])
 }
 
 #[test]
@@ -169,33 +166,21 @@ fn a_marked_sector_stays_marked_over_power_on(rt: HostRuntime) -> Result<(), Fai
     Ok(())
 }
 
-/// WRITE UNCORRECTABLE EXT of 64 sectors, of one more, and of some of the 64 again.
+/// WRITE UNCORRECTABLE EXT of 64 sectors, of some of the 64 again, and of one more.
+const MARKS_64: [u32; 4] = [0x2780_4555, 0x0000_0040, 0, 0x4000_0000];
+
+const MARKS_SOME_AGAIN: [u32; 4] = [0x2780_4555, 0x0800_0040, 0, 0x1000_0000];
+
+const MARKS_ONE_MORE: [u32; 4] = [0x2780_4555, 0x4000_0040, 0, 0x0100_0000];
+
 const ROOM: &[Row] = &[
-    Issues(
-        0,
-        NONE,
-        TABLE,
-        [0x2780_4555, 0x0000_0040, 0, 0x4000_0000],
-        NO_PIECES,
-    ),
+    Issues(0, NONE, TABLE, MARKS_64, NO_PIECES),
     Does(0),
     Answered(0x40, 0, 0, 0),
-    Issues(
-        0,
-        NONE,
-        TABLE,
-        [0x2780_4555, 0x0800_0040, 0, 0x1000_0000],
-        NO_PIECES,
-    ),
+    Issues(0, NONE, TABLE, MARKS_SOME_AGAIN, NO_PIECES),
     Does(0),
     Answered(0x40, 0, 0, 0),
-    Issues(
-        0,
-        NONE,
-        TABLE,
-        [0x2780_4555, 0x4000_0040, 0, 0x0100_0000],
-        NO_PIECES,
-    ),
+    Issues(0, NONE, TABLE, MARKS_ONE_MORE, NO_PIECES),
     Does(0),
     Answered(0x41, 4, 0, 0),
 ];
@@ -204,13 +189,7 @@ const ROOM: &[Row] = &[
 const AGAIN: &[Row] = &[
     Queues(1, ONE, OTHER, WRITE, SECTOR),
     Does(1),
-    Issues(
-        0,
-        NONE,
-        TABLE,
-        [0x2780_4555, 0x4000_0040, 0, 0x0100_0000],
-        NO_PIECES,
-    ),
+    Issues(0, NONE, TABLE, MARKS_ONE_MORE, NO_PIECES),
     Does(0),
     Answered(0x40, 0, 0, 0),
 ];

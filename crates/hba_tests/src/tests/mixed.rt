@@ -9,7 +9,7 @@ use crate::tests::registers::{PX_CI, PX_IS, PX_SACT, PX_TFD};
 use crate::tests::resets::SOFTWARE_RESET;
 use crate::tests::settings::{
     COMRESET, DATA, IDENTIFY, MEMORY, ONE, OTHER, READ, READ_DMA, READ_LOG, RESTART, SECTOR, START,
-    TABLE, WRITE,
+    SmallStory, TABLE, WRITE, play_small,
 };
 use std::test::Fail;
 
@@ -106,12 +106,9 @@ const MIXED_AGAIN: &[Row] = &[
     Answered(0x41, 4, 0, 0),
 ];
 
-static STORY: Story = Story {
-    name: "a command under queued ones",
-    sectors: 8,
-    depth: 32,
-    memory: MEMORY,
-    parts: &[
+static STORY: SmallStory = (
+    "a command under queued ones",
+    &[
         START,
         MIXED,
         RESTART,
@@ -134,7 +131,7 @@ static STORY: Story = Story {
         SOFTWARE_RESET,
         GOES_ON,
     ],
-};
+);
 
 /// A queued command whose tag the disk hasn't is aborted beside another queued one, and is no command that isn't queued: the disk goes on.
 const TAG_PAST_THE_DEPTH: &[Row] = &[
@@ -184,5 +181,5 @@ fn a_queued_command_that_is_aborted_leaves_the_disk_going(rt: HostRuntime) -> Re
 fn a_command_under_queued_ones_aborts_them_until_the_log_is_read(
     rt: HostRuntime,
 ) -> Result<(), Fail> {
-    plays(&rt, rt.alloc(), &STORY)
+    play_small(&rt, rt.alloc(), &[STORY])
 }

@@ -1,16 +1,16 @@
 //! READ and WRITE MULTIPLE, whose blocks have as many sectors as SET MULTIPLE MODE has set (ACS-3, by the commands' titles; Serial ATA, "PIO Setup").
 
-use crate::tests::blocks::{FILLED, SERVED, THREE};
+use crate::tests::blocks::{EMPTIED, FILLED, LAST_READ, SERVED, THREE, THREE_WRITTEN};
 use crate::tests::player::Pieces::These;
+use crate::tests::player::Row;
 use crate::tests::player::Row::{
-    Does, Fills, Has, HasAll, Issues, Lays, Reads, Sector, Steps, Writes,
+    Does, Fills, Has, HasAll, Issues, Lays, PioSetup, Reads, Sector, Steps, Writes,
 };
-use crate::tests::player::{Row, Story, plays};
 use crate::tests::registers::{PX_CI, PX_IS, PX_TFD};
 use crate::tests::resets::SOFTWARE_RESET;
 use crate::tests::settings::{
-    COMRESET, DATA, IDENTIFY, LIST, MEMORY, NO_PIECES, NONE, ONE, RECEIVED, RESTART, SECTOR, START,
-    TABLE,
+    COMRESET, DATA, IDENTIFY, LIST, NO_PIECES, NONE, ONE, RECEIVED, RESTART, SECTOR, START,
+    SmallStory, TABLE, play_small,
 };
 use std::test::Fail;
 
@@ -72,23 +72,17 @@ const HAS_TWO: &[Row] = &[
     Has(DATA + 2 * 59, &[2, 1]),
 ];
 
+/// WRITE MULTIPLE and READ MULTIPLE of three sectors from LBA 2 on.
+const WRITE_MULTIPLE: [u32; 4] = [0x2780_C500, 0x0200_0040, 0, 0x0300_0000];
+
+const READ_MULTIPLE: [u32; 4] = [0x2780_C400, 0x0200_0040, 0, 0x0300_0000];
+
 /// WRITE MULTIPLE of three sectors: a block of two, whose PIO Setup FIS has no I and 1,024 bytes, and one of one.
-const WRITTEN: &[Row] = &[Lays(
-    0,
-    0x0002_0045,
-    TABLE,
-    [0x2780_C500, 0x0200_0040, 0, 0x0300_0000],
-    THREE,
-)];
+const WRITTEN: &[Row] = &[Lays(0, 0x0002_0045, TABLE, WRITE_MULTIPLE, THREE)];
 
 const BLOCKS_OUT: &[Row] = &[
     Steps(0),
-    Has(
-        RECEIVED + 0x20,
-        &[
-            0x5F, 0x00, 0x48, 0, 0, 0, 0, 0, 0, 0, 0, 0, 0, 0, 0, 0xC0, 0, 4, 0, 0,
-        ],
-    ),
+    PioSetup(0x00, 0xC0, 1024),
     Reads(PX_TFD, 0xC0),
     Reads(PX_IS, 0),
     Reads(PX_CI, 1),
@@ -102,37 +96,14 @@ const BLOCKS_OUT: &[Row] = &[
     Steps(0),
     Row::Answered(0x40, 0, 0, 0),
     Reads(PX_IS, 1),
-    Reads(PX_CI, 0),
-    Has(LIST + 4, &[0, 6, 0, 0]),
-    Sector(1, 0),
-    Sector(2, 0x11),
-    Sector(3, 0x22),
-    Sector(4, 0x33),
-    Sector(5, 0),
 ];
 
 /// READ MULTIPLE of the same: PSS comes with each block, and E_Status of the last one ends the command.
-const READ: &[Row] = &[
-    Fills(DATA, 0x1000, 0xEE),
-    Fills(RECEIVED, 256, 0xEE),
-    Writes(PX_IS, 0xFFFF_FFFF),
-    Lays(
-        0,
-        0x0002_0005,
-        TABLE,
-        [0x2780_C400, 0x0200_0040, 0, 0x0300_0000],
-        THREE,
-    ),
-];
+const READ: &[Row] = &[Lays(0, 0x0002_0005, TABLE, READ_MULTIPLE, THREE)];
 
 const BLOCKS_IN: &[Row] = &[
     Steps(0),
-    Has(
-        RECEIVED + 0x20,
-        &[
-            0x5F, 0x60, 0x48, 0, 0, 0, 0, 0, 0, 0, 0, 0, 0, 0, 0, 0xC0, 0, 4, 0, 0,
-        ],
-    ),
+    PioSetup(0x60, 0xC0, 1024),
     Reads(PX_TFD, 0xC0),
     Reads(PX_IS, 2),
     Reads(PX_CI, 1),
@@ -143,13 +114,6 @@ const BLOCKS_IN: &[Row] = &[
     HasAll(DATA + 0x944, 512, 0xEE),
     Writes(PX_IS, 2),
     Steps(0),
-    Has(RECEIVED + 0x2F, &[0x40, 0, 2]),
-    Reads(PX_TFD, 0x40),
-    Reads(PX_IS, 2),
-    Reads(PX_CI, 0),
-    Has(LIST + 4, &[0, 6, 0, 0]),
-    HasAll(DATA + 0x944, 512, 0x33),
-    HasAll(RECEIVED + 0x40, 20, 0xEE),
 ];
 
 /// READ MULTIPLE past the last sector: a block of two sectors, and one of the last one; then the FIS with IDNF.
@@ -191,12 +155,7 @@ const SETS_SIXTEEN: &[Row] = &[
     ),
     Does(0),
     Row::Answered(0x40, 0, 0, 0),
-    Has(
-        RECEIVED + 0x20,
-        &[
-            0x5F, 0x00, 0x48, 0, 0, 0, 0, 0, 0, 0, 0, 0, 0, 0, 0, 0xC0, 0, 0x10, 0, 0,
-        ],
-    ),
+    PioSetup(0x00, 0xC0, 4096),
     Sector(0, 0x44),
     Sector(7, 0x44),
     Fills(DATA, 4096, 0x55),
@@ -250,12 +209,9 @@ const SETS_NONE: &[Row] = &[
     Row::Answered(0x40, 0, 0, 0),
 ];
 
-static STORY: Story = Story {
-    name: "READ and WRITE MULTIPLE",
-    sectors: 8,
-    depth: 32,
-    memory: MEMORY,
-    parts: &[
+static STORY: SmallStory = (
+    "READ and WRITE MULTIPLE",
+    &[
         START,
         UNSET,
         READ_ABORTED,
@@ -268,9 +224,12 @@ static STORY: Story = Story {
         WRITTEN,
         SERVED,
         BLOCKS_OUT,
+        THREE_WRITTEN,
+        EMPTIED,
         READ,
         SERVED,
         BLOCKS_IN,
+        LAST_READ,
         SOFTWARE_RESET,
         HAS_TWO,
         COMRESET,
@@ -288,18 +247,15 @@ static STORY: Story = Story {
         UNSET,
         READ_ABORTED,
     ],
-};
+);
 
-static PAST: Story = Story {
-    name: "READ MULTIPLE past the last sector",
-    sectors: 8,
-    depth: 32,
-    memory: MEMORY,
-    parts: &[START, SETS_TWO, READ_PAST],
-};
+static PAST: SmallStory = (
+    "READ MULTIPLE past the last sector",
+    &[START, SETS_TWO, READ_PAST],
+);
 
 #[test]
 fn read_and_write_multiple_move_in_blocks_of_several_sectors(rt: HostRuntime) -> Result<(), Fail> {
-    plays(&rt, rt.alloc(), &STORY)?;
-    plays(&rt, rt.alloc(), &PAST)
+    play_small(&rt, rt.alloc(), &[STORY])?;
+    play_small(&rt, rt.alloc(), &[PAST])
 }

@@ -45,6 +45,8 @@ pub enum Row {
     Takes(u8),
     /// The disk takes one step with the command of a slot.
     Steps(u8),
+    /// The disk takes so many steps with the command of a slot.
+    StepsBy(u8, u8),
     /// The disk does all of the command of a slot.
     Does(u8),
     /// The disk fails the command of a slot that it has taken, with an error byte at a sector.
@@ -55,6 +57,8 @@ pub enum Row {
     Has(u64, &'static [u8]),
     /// The received FIS area has a D2H Register FIS with I 1, this status, error, low byte of the LBA, and count.
     Answered(u8, u8, u8, u8),
+    /// The received FIS area has a PIO Setup FIS with this byte of I and D, status 48h, this E_Status, and so many bytes.
+    PioSetup(u8, u8, u16),
     /// Memory has so many bytes of one value at an address.
     HasAll(u64, u32, u8),
     /// A sector of the disk has one value in all its bytes.
@@ -219,6 +223,11 @@ pub fn acts<A: Allocator + Copy>(hba: &mut Hba<A>, guest: &mut Guest, row: Row) 
         }
         Row::Takes(slot) => take(hba, guest, slot),
         Row::Steps(slot) => step(hba, guest, slot),
+        Row::StepsBy(slot, count) => {
+            for _ in 0..count {
+                step(hba, guest, slot);
+            }
+        }
         Row::Does(slot) => end(hba, guest, slot),
         Row::Fails(slot, error, lba) => {
             let _ = hba.fail(slot_of(slot), error, lba);
@@ -251,6 +260,14 @@ pub fn sees<A: Allocator + Copy>(
                 0x34, 0x40, status, error, lba, 0, 0, 0, 0, 0, 0, 0, count, 0,
             ];
             let found = guest.get(received_at(hba).wrapping_add(0x40), 14);
+            equal(rt, place, &found, &Some(&fis[..]));
+        }
+        Row::PioSetup(bits, e_status, count) => {
+            let [low, high] = count.to_le_bytes();
+            let fis = [
+                0x5F, bits, 0x48, 0, 0, 0, 0, 0, 0, 0, 0, 0, 0, 0, 0, e_status, low, high, 0, 0,
+            ];
+            let found = guest.get(received_at(hba).wrapping_add(0x20), 20);
             equal(rt, place, &found, &Some(&fis[..]));
         }
         Row::HasAll(at, count, byte) => {

@@ -3,12 +3,12 @@
 use crate::tests::player::Row::{
     Does, Fills, HasAll, Issues, Lays, Queues, Reads, ReadsBits, Writes,
 };
-use crate::tests::player::{Player, Row, Story, plays};
+use crate::tests::player::{Player, Row};
 use crate::tests::registers::{PX_CI, PX_CMD, PX_IS, PX_SACT, PX_TFD};
 use crate::tests::resets::{HBA_RESET, SOFTWARE_RESET};
 use crate::tests::settings::{
     COMRESET, DATA, IDENTIFY, MEMORY, NO_PIECES, NONE, ONE, OTHER, READ, RECEIVED, RESTART, SECTOR,
-    START, TABLE,
+    START, SmallStory, TABLE, play_small,
 };
 use std::process::Abort;
 use std::test::Fail;
@@ -215,8 +215,7 @@ const ANSWERED: &[Row] = &[
     HasAll(DATA, 512, 0),
 ];
 
-/// A story over a small disk.
-static STORIES: [(&str, &[&[Row]]); 6] = [
+static STORIES: [SmallStory; 6] = [
     (
         "COMRESET ends Sleep, and ST does not",
         &[
@@ -282,15 +281,5 @@ static STORIES: [(&str, &[&[Row]]); 6] = [
 
 #[test]
 fn only_a_reset_ends_sleep(rt: HostRuntime) -> Result<(), Fail> {
-    for (name, parts) in STORIES {
-        let story = Story {
-            name,
-            sectors: 8,
-            depth: 32,
-            memory: MEMORY,
-            parts,
-        };
-        plays(&rt, rt.alloc(), &story)?;
-    }
-    Ok(())
+    play_small(&rt, rt.alloc(), &STORIES)
 }

@@ -3,30 +3,35 @@
 use crate::tests::fatal::GOES_ON;
 use crate::tests::player::Pieces::These;
 use crate::tests::player::Row::{
-    Does, Fails, Fetches, Fills, HasAll, Interrupt, Issues, Lays, Queues, Reads, Refuses, Steps,
+    Does, Fails, Fetches, Fills, HasAll, Interrupt, Issues, Queues, Reads, Refuses, Steps, StepsBy,
     Takes, Writes,
 };
-use crate::tests::player::{Row, Story, plays};
-use crate::tests::registers::{IS, PX_CI, PX_IE, PX_IS, PX_SACT};
+use crate::tests::player::{Pieces, Row};
+use crate::tests::registers::{IS, PX_IE, PX_IS};
 use crate::tests::settings::{
-    COMRESET, DATA, MEMORY, ONE, OTHER, READ, READ_DMA, START, TABLE, WRITE,
+    COMRESET, DATA, ONE, OTHER, READ, READ_DMA, START, SmallStory, TABLE, WRITE, play_small,
 };
 use std::test::Fail;
 
 /// Dword 0 of a header with two entries.
 const TWO: u32 = 0x0002_0005;
 
+/// A sector of data in one entry, whose I is 1.
+const SECTOR_WITH_I: Pieces = These(&[(DATA, 0x8000_0200)]);
+
+/// Three sectors in two entries: the first one has 700 bytes, and I is 1.
+const THREE_WITH_I: Pieces = These(&[(DATA, 0x8000_02BC), (DATA + 0x800, 836)]);
+
 /// DPS alone can interrupt, does so once, and is cleared by writing 1.
 const INTERRUPTED: &[Row] = &[
     Writes(PX_IE, 0x20),
-    Lays(
+    Issues(
         0,
         TWO,
         TABLE,
         READ_DMA,
         These(&[(DATA, 0x8000_0100), (DATA + 0x200, 256)]),
     ),
-    Writes(PX_CI, 1),
     Does(0),
     Reads(PX_IS, 0x21),
     Interrupt(true),
@@ -40,25 +45,23 @@ const INTERRUPTED: &[Row] = &[
 
 /// The data end before the last byte of the entry with I: in it, or before it.
 const NOT_WHOLE: &[Row] = &[
-    Lays(
+    Issues(
         0,
         TWO,
         TABLE,
         READ_DMA,
         These(&[(DATA, 256), (DATA + 0x200, 0x8000_0102)]),
     ),
-    Writes(PX_CI, 1),
     Does(0),
     Reads(PX_IS, 1),
     Writes(PX_IS, 1),
-    Lays(
+    Issues(
         0,
         TWO,
         TABLE,
         READ_DMA,
         These(&[(DATA, 512), (DATA + 0x200, 0x8000_0002)]),
     ),
-    Writes(PX_CI, 1),
     Does(0),
     Reads(PX_IS, 1),
     Writes(PX_IS, 1),
@@ -66,19 +69,17 @@ const NOT_WHOLE: &[Row] = &[
 
 /// Queued, in both directions.
 const QUEUED: &[Row] = &[
-    Queues(1, ONE, OTHER, READ, These(&[(DATA, 0x8000_0200)])),
+    Queues(1, ONE, OTHER, READ, SECTOR_WITH_I),
     Does(1),
     Reads(PX_IS, 0x28),
     Writes(PX_IS, 0x28),
-    Lays(
+    Queues(
         1,
         TWO,
         OTHER,
         WRITE,
         These(&[(DATA, 0x8000_01FE), (DATA + 0x200, 2)]),
     ),
-    Writes(PX_SACT, 2),
-    Writes(PX_CI, 2),
     Does(1),
     Reads(PX_IS, 0x28),
     Writes(PX_IS, 0x28),
@@ -95,28 +96,16 @@ const NOT_QUEUED: &[Row] = &[
         ONE,
         TABLE,
         [0x2780_CA00, 0x0300_0040, 0, 0x0100_0000],
-        These(&[(DATA, 0x8000_0200)]),
+        SECTOR_WITH_I,
     ),
     Does(0),
     Reads(PX_IS, 0x21),
     Writes(PX_IS, 0x21),
-    Issues(
-        0,
-        ONE,
-        TABLE,
-        [0x2780_EB00, 0, 0, 0],
-        These(&[(DATA, 0x8000_0200)]),
-    ),
+    Issues(0, ONE, TABLE, [0x2780_EB00, 0, 0, 0], SECTOR_WITH_I),
     Does(0),
     Reads(PX_IS, 0x21),
     Writes(PX_IS, 0x21),
-    Issues(
-        0,
-        ONE,
-        TABLE,
-        [0x2780_E400, 0, 0, 0],
-        These(&[(DATA, 0x8000_0200)]),
-    ),
+    Issues(0, ONE, TABLE, [0x2780_E400, 0, 0, 0], SECTOR_WITH_I),
     Does(0),
     Reads(PX_IS, 0x22),
     Writes(PX_IS, 0x22),
@@ -124,19 +113,14 @@ const NOT_QUEUED: &[Row] = &[
 
 /// Three sectors by PIO, and an entry of 700 bytes: its last byte is in the second block, to the device and to the driver.
 const BY_BLOCKS: &[Row] = &[
-    Lays(
+    Issues(
         0,
         TWO,
         TABLE,
         [0x2780_3000, 0x0200_0040, 0, 0x0300_0000],
-        These(&[(DATA, 0x8000_02BC), (DATA + 0x800, 836)]),
+        THREE_WITH_I,
     ),
-    Writes(PX_CI, 1),
-    Steps(0),
-    Steps(0),
-    Steps(0),
-    Steps(0),
-    Steps(0),
+    StepsBy(0, 5),
     Reads(PX_IS, 0),
     Steps(0),
     Reads(PX_IS, 0),
@@ -149,19 +133,14 @@ const BY_BLOCKS: &[Row] = &[
     Steps(0),
     Reads(PX_IS, 1),
     Writes(PX_IS, 1),
-    Lays(
+    Issues(
         0,
         TWO,
         TABLE,
         [0x2780_2000, 0x0200_0040, 0, 0x0300_0000],
-        These(&[(DATA, 0x8000_02BC), (DATA + 0x800, 836)]),
+        THREE_WITH_I,
     ),
-    Writes(PX_CI, 1),
-    Steps(0),
-    Steps(0),
-    Steps(0),
-    Steps(0),
-    Steps(0),
+    StepsBy(0, 5),
     Reads(PX_IS, 0),
     Steps(0),
     Reads(PX_IS, 2),
@@ -184,29 +163,26 @@ const FILLED: &[Row] = &[
 
 /// A read that fails at its second sector has processed the entry of the first one, and one of two bytes more it has not.
 const FAILED: &[Row] = &[
-    Lays(
+    Issues(
         0,
         TWO,
         TABLE,
         [0x2780_C800, 0x0200_0040, 0, 0x0200_0000],
         These(&[(DATA, 0x8000_0200), (DATA + 0x800, 512)]),
     ),
-    Writes(PX_CI, 1),
     Fetches(0),
     Refuses(0, 0x40, 3),
     Reads(PX_IS, 0x4000_0021),
 ];
 
 const FAILED_WITHIN: &[Row] = &[
-    Lays(
+    Queues(
         1,
         TWO,
         OTHER,
         [0x2780_6002, 0x0200_0040, 0, 0x0800_0000],
         These(&[(DATA, 0x8000_0202), (DATA + 0x800, 510)]),
     ),
-    Writes(PX_SACT, 2),
-    Writes(PX_CI, 2),
     Takes(1),
     Writes(PX_IS, 0xFFFF_FFFF),
     Fails(1, 0x40, 3),
@@ -216,26 +192,22 @@ const FAILED_WITHIN: &[Row] = &[
 /// A fatal error behind an entry that is in memory stops the answer, and DPS with it (profile).
 const STOPPED: &[Row] = &[
     Fills(DATA, 512, 0xEE),
-    Lays(
+    Issues(
         0,
         TWO,
         TABLE,
         READ_DMA,
         These(&[(DATA, 0x8000_0100), (0x2_0000, 256)]),
     ),
-    Writes(PX_CI, 1),
     Does(0),
     HasAll(DATA, 256, 0),
     Reads(PX_IS, 0x2000_0000),
 ];
 
-static STORIES: [Story; 2] = [
-    Story {
-        name: "entries with I",
-        sectors: 8,
-        depth: 32,
-        memory: MEMORY,
-        parts: &[
+static STORIES: [SmallStory; 2] = [
+    (
+        "entries with I",
+        &[
             START,
             INTERRUPTED,
             NOT_WHOLE,
@@ -246,20 +218,14 @@ static STORIES: [Story; 2] = [
             GOES_ON,
             FAILED,
         ],
-    },
-    Story {
-        name: "answers that fail within an entry with I",
-        sectors: 8,
-        depth: 32,
-        memory: MEMORY,
-        parts: &[START, STOPPED, COMRESET, FAILED_WITHIN],
-    },
+    ),
+    (
+        "answers that fail within an entry with I",
+        &[START, STOPPED, COMRESET, FAILED_WITHIN],
+    ),
 ];
 
 #[test]
 fn an_entry_with_i_sets_dps_once_it_has_moved_whole(rt: HostRuntime) -> Result<(), Fail> {
-    for story in &STORIES {
-        plays(&rt, rt.alloc(), story)?;
-    }
-    Ok(())
+    play_small(&rt, rt.alloc(), &STORIES)
 }

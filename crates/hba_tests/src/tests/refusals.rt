@@ -131,9 +131,13 @@ fn a_controller_is_made_or_leaves_nothing_behind(rt: HostRuntime) -> Result<(), 
 fn lives(rt: &impl Abort, heap: &Heap, alloc: Global) -> Result<(), Fail> {
     let mut hba = Hba::new(heap, vec![in heap; 0u8; 512 * SECTORS]?, 32)?;
     let mut guest = Guest::new(alloc, MEMORY)?;
-    for (part, steps) in LIFE.iter().enumerate() {
-        for (number, step) in steps.iter().enumerate() {
-            goes_on(rt, heap, &mut hba, &mut guest, (part, number), *step);
+    for (part, pieces) in LIFE.iter().enumerate() {
+        let mut number = 0usize;
+        for steps in *pieces {
+            for step in *steps {
+                goes_on(rt, heap, &mut hba, &mut guest, (part, number), *step);
+                number = number.wrapping_add(1);
+            }
         }
     }
     Ok(())

@@ -1,15 +1,16 @@
 //! Stories of resets: of the link, of the HBA, and by software; and of registers that stay as they are.
 
+use crate::tests::player::Row;
 use crate::tests::player::Row::{
     Does, Fills, HasAll, Issues, Lays, Reads, ReadsBits, Sector, Signs, Takes, Writes,
 };
-use crate::tests::player::{Row, Story, plays};
 use crate::tests::registers::{
     CAP, GHC, IS, PI, PX_CI, PX_CLB, PX_CLBU, PX_CMD, PX_FB, PX_FBU, PX_IE, PX_IS, PX_SACT,
     PX_SCTL, PX_SERR, PX_SIG, PX_SSTS, PX_TFD, VS,
 };
 use crate::tests::settings::{
-    DATA, MEMORY, NO_PIECES, NONE, ONE, OTHER, READ_DMA, RESTART, SECTOR, START, TABLE, WRITE,
+    DATA, NO_PIECES, NONE, ONE, OTHER, READ_DMA, RESTART, SECTOR, START, SmallStory, TABLE, WRITE,
+    play_small,
 };
 use std::test::Fail;
 
@@ -200,8 +201,7 @@ const MISSING: &[Row] = &[
     Reads(0xFFFC, 0),
 ];
 
-/// A story over a small disk.
-static STORIES: [(&str, &[&[Row]]); 7] = [
+static STORIES: [SmallStory; 7] = [
     (
         "COMRESET drops commands, and the signature comes again",
         &[START, TAKEN, LINK_RESET, NOTHING_LEFT, LINK_UP, GOES_ON],
@@ -237,15 +237,5 @@ static STORIES: [(&str, &[&[Row]]); 7] = [
 
 #[test]
 fn resets_drop_commands_and_the_port_goes_on(rt: HostRuntime) -> Result<(), Fail> {
-    for (name, parts) in STORIES {
-        let story = Story {
-            name,
-            sectors: 8,
-            depth: 32,
-            memory: MEMORY,
-            parts,
-        };
-        plays(&rt, rt.alloc(), &story)?;
-    }
-    Ok(())
+    play_small(&rt, rt.alloc(), &STORIES)
 }

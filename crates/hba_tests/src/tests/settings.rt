@@ -3,8 +3,11 @@
 use crate::tests::guest::Stretch;
 use crate::tests::player::Pieces::These;
 use crate::tests::player::Row::{Signs, Writes};
-use crate::tests::player::{Pieces, Row};
+use crate::tests::player::{Pieces, Row, Story, plays};
 use crate::tests::registers::{GHC, PX_CLB, PX_CMD, PX_FB, PX_IE, PX_IS, PX_SCTL, PX_SERR};
+use std::alloc::Global;
+use std::process::Abort;
+use std::test::Fail;
 
 /// Where the received FIS area, the command list, the tables of slots 0 and 1, and the data are.
 pub const RECEIVED: u64 = 0x400;
@@ -73,3 +76,21 @@ pub const RESTART: &[Row] = &[
     Writes(PX_IS, 0xFFFF_FFFF),
     Writes(PX_CMD, 0x11),
 ];
+
+/// What a story shows, and its parts; its disk has eight sectors and queues 32 commands.
+pub type SmallStory = (&'static str, &'static [&'static [Row]]);
+
+/// Plays stories over a small disk.
+pub fn play_small(rt: &impl Abort, alloc: Global, stories: &[SmallStory]) -> Result<(), Fail> {
+    for (name, parts) in stories {
+        let story = Story {
+            name: *name,
+            sectors: 8,
+            depth: 32,
+            memory: MEMORY,
+            parts: *parts,
+        };
+        plays(rt, alloc, &story)?;
+    }
+    Ok(())
+}

@@ -2,13 +2,13 @@
 
 use crate::tests::fatal::GOES_ON;
 use crate::tests::player::Pieces::These;
+use crate::tests::player::Row;
 use crate::tests::player::Row::{
     Does, Fills, Has, HasAll, Issues, Queues, Reads, ReadsBits, Writes,
 };
-use crate::tests::player::{Row, Story, plays};
 use crate::tests::registers::{PX_CI, PX_IS, PX_SACT, PX_TFD};
 use crate::tests::settings::{
-    DATA, LIST, MEMORY, ONE, OTHER, READ, READ_DMA, SECTOR, START, TABLE,
+    DATA, LIST, ONE, OTHER, READ, READ_DMA, SECTOR, START, SmallStory, TABLE, play_small,
 };
 use std::test::Fail;
 
@@ -68,12 +68,9 @@ const TOO_SHORT_BY_PIO: &[Row] = &[
     Writes(PX_IS, 0x0100_0002),
 ];
 
-static SHORT: Story = Story {
-    name: "short lists",
-    sectors: 8,
-    depth: 32,
-    memory: MEMORY,
-    parts: &[
+static SHORT: SmallStory = (
+    "short lists",
+    &[
         START,
         TOO_SHORT,
         GOES_ON,
@@ -82,9 +79,9 @@ static SHORT: Story = Story {
         TOO_SHORT_BY_PIO,
         GOES_ON,
     ],
-};
+);
 
 #[test]
 fn a_short_list_is_filled_and_the_port_goes_on(rt: HostRuntime) -> Result<(), Fail> {
-    plays(&rt, rt.alloc(), &SHORT)
+    play_small(&rt, rt.alloc(), &[SHORT])
 }
