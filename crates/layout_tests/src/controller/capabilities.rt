@@ -133,17 +133,17 @@ static SPINNING: [Row; 27] = [
     Read(0x128, 0),
 ];
 
-#[test]
-fn with_staggered_spin_up_the_device_waits_for_sud(rt: HostRuntime) {
-    let staggered = Capabilities {
+/// The registers of an HBA with staggered spin-up.
+pub(super) fn staggered() -> HbaRegs {
+    HbaRegs::with_capabilities(Capabilities {
         sss: true,
         ..Capabilities::new()
-    };
-    plays_on(
-        &rt,
-        HbaRegs::with_capabilities(staggered),
-        SPINNING.as_slice(),
-    );
+    })
+}
+
+#[test]
+fn with_staggered_spin_up_the_device_waits_for_sud(rt: HostRuntime) {
+    plays_on(&rt, staggered(), SPINNING.as_slice());
 }
 
 static STARTED: [Row; 4] = [

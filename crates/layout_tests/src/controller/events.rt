@@ -1,7 +1,8 @@
 //! What the link, the device and the interface do by themselves, and what drivers read of it.
 use super::Row::{Commands, Does, Event, Halted, Line, Read, Signature, Write};
+use super::capabilities::staggered;
 use super::{Row, plays, plays_on};
-use hba_regs::{Capabilities, Consequence, HbaRegs, InterfaceError};
+use hba_regs::{Consequence, HbaRegs, InterfaceError};
 
 /// An event, by the call of its name.
 #[derive(Clone, Copy)]
@@ -125,15 +126,7 @@ static ABSENT: [Row; 15] = [
 
 #[test]
 fn without_a_device_no_write_brings_the_link_up(rt: HostRuntime) {
-    let staggered = Capabilities {
-        sss: true,
-        ..Capabilities::new()
-    };
-    plays_on(
-        &rt,
-        HbaRegs::with_capabilities(staggered),
-        ABSENT.as_slice(),
-    );
+    plays_on(&rt, staggered(), ABSENT.as_slice());
     let mut regs = HbaRegs::new();
     regs.unplug();
     regs.power_on();
