@@ -1,7 +1,7 @@
 //! A picture of what a script's port did: its journal in rows of a hundred entries, with a lane for each tag that is used, as SVG
 //! (Scalable Vector Graphics 1.1).
 //!
-//! A writer writes a *listing* while the script runs, in which each entry has a line: a letter for each thing that is drawn of it. The
+//! An answer writer makes a *listing* while the script runs, in which each entry has a line: a letter for each thing that is drawn of it. The
 //! picture is made of these lines once the script has ended, when it is known which tags have a lane and how long each run is.
 #![tactic(auto)]
 
