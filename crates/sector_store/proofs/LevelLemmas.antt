@@ -113,6 +113,14 @@ part_inside {C} slot_at parts i r is =
 pub part_is : {C : Type 0} (parts : List (Option C)) (i : ℕ) (read part : Option C) → i < length parts → read ≡ get_or parts i read → read ≡ part → get_or parts i None ≡ part
 part_is {C} parts i read part inside at is = sym (get_or_read {X = Option C} parts i read inside at None) ∙ is
 
+-- one slot of a part that was read has changed
+pub part_exchanged : {C : Type 0} (slot_at : C → ℕ → Option Layers) (span number : ℕ) (parts : List (Option C)) (read : Option C) (old new : C) (layers : Layers)
+    → is_some (level_slot slot_at span parts number) ≡ true → read ≡ get_or parts (number / span) read → read ≡ Some old → IsExchanged (number % span) layers (slot_at old) (slot_at new)
+    → IsExchanged number layers (level_slot slot_at span parts) (level_slot slot_at span (set parts (number / span) (Some new)))
+part_exchanged {C} slot_at span number parts read old new layers made at is each =
+    let inside = part_inside slot_at parts (number / span) (number % span) made in
+    level_exchanged slot_at span number parts old new layers inside (part_is parts (number / span) read (Some old) inside at is) each
+
 -- a part that was only read stays
 pub part_stays : {C : Type 0} (parts : List (Option C)) (i : ℕ) (read : Option C) → read ≡ get_or parts i read → set parts i read ≡ parts
 part_stays {C} parts i read at = ap (set parts i) at ∙ set-get_or {A = Option C} parts i read
