@@ -25,31 +25,27 @@ sends : (p : HbaPort) (s slot : ℕ) (c : Bool) → has_place (cfis_success s c 
 sends p s slot true = leaves p.ci s slot
 sends p s slot false = stays (has_place p.ci slot)
 
+-- by ERR, and by BSY and DRQ: with neither the slot's bit goes
+ends : (err busy x : Bool) (fails waits clears : HbaPort) (s slot : ℕ) → has_place fails.ci slot ≡ x → has_place waits.ci slot ≡ x
+    → has_place clears.ci slot ≡ (x && not (nat_eq s slot))
+    → has_place (if err then fails else if busy then waits else clears).ci slot ≡ (x && not ((not err && not busy) && nat_eq s slot))
+ends true busy x fails waits clears s slot f w c = f ∙ stays x
+ends false true x fails waits clears s slot f w c = w ∙ stays x
+ends false false x fails waits clears s slot f w c = c
+
 registers : (p : HbaPort) (status error : ℕ) (i : Bool) (s slot : ℕ) → has_place (after (RegFisEntry status error i s) p).ci slot
     ≡ (has_place p.ci slot && not (answers_command (RegFisEntry status error i s) p slot))
-registers p status error i s slot = by (err_of status) (bsy_or_drq_of status)
-  where
-    q : HbaPort
-    q = record p { sts = status; err = error }
-
-    by : (e b : Bool) → has_place (if e then err_fatal_taskfile (reg_fis_set_intr i q) else if b then reg_fis_set_intr i q else reg_fis_clear_ci i s q).ci slot
-        ≡ (has_place p.ci slot && not ((not e && not b) && nat_eq s slot))
-    by true b = stays (has_place p.ci slot)
-    by false true = stays (has_place p.ci slot)
-    by false false = leaves p.ci s slot
+registers p status error i s slot =
+    let q : HbaPort = record p { sts = status; err = error } in
+    ends (err_of status) (bsy_or_drq_of status) (has_place p.ci slot) (err_fatal_taskfile (reg_fis_set_intr i q)) (reg_fis_set_intr i q) (reg_fis_clear_ci i s q) s slot
+    refl refl (leaves p.ci s slot)
 
 moves_data : (p : HbaPort) (e_status error : ℕ) (i : Bool) (s slot : ℕ) → has_place (after (PioUpdate e_status error i s) p).ci slot
     ≡ (has_place p.ci slot && not (answers_command (PioUpdate e_status error i s) p slot))
-moves_data p e_status error i s slot = by (err_of e_status) (bsy_or_drq_of e_status)
-  where
-    q : HbaPort
-    q = record p { sts = e_status; err = error }
-
-    by : (e b : Bool) → has_place (if e then err_fatal_taskfile (pio_set_intr i q) else if b then pio_set_intr i q else pio_clear_ci i s q).ci slot
-        ≡ (has_place p.ci slot && not ((not e && not b) && nat_eq s slot))
-    by true b = stays (has_place p.ci slot)
-    by false true = stays (has_place p.ci slot)
-    by false false = leaves p.ci s slot
+moves_data p e_status error i s slot =
+    let q : HbaPort = record p { sts = e_status; err = error } in
+    ends (err_of e_status) (bsy_or_drq_of e_status) (has_place p.ci slot) (err_fatal_taskfile (pio_set_intr i q)) (pio_set_intr i q) (pio_clear_ci i s q) s slot
+    refl refl (leaves p.ci s slot)
 
 signs : (p : HbaPort) (soft : SoftReset) (slot : ℕ) → has_place (ended_by_signature soft p.ci) slot ≡ (has_place p.ci slot && not (ends_reset soft slot))
 signs p Off slot = stays (has_place p.ci slot)

@@ -161,20 +161,23 @@ no_delivery h slot listening =
     none_delivered (is_running h.registers.port) h.registers.port.fre (delivers_for h.dma slot)
     (idle_delivers h.dma slot (and_parts (is_running h.registers.port) (is_idle h.dma) listening).1)
 
--- the next step with a command
-abbrev next_with : HbaView → ℕ → Option CommandView → Option Step
-next_with h slot c =
-    cond
-    (is_listening h && p_idle_selects h.registers.port && (has_place h.registers.port.ci slot && is_empty c) && not (is_overtaken h slot) && not (list_any has_alone h.slots))
-    (Some step.Fetch)
-    (cond (is_listening h && is_some (control_in c)) (Some step.Control)
+-- the next step with a command, if it is not to be read, and the next step with any
+abbrev next_but_fetch : HbaView → ℕ → Option CommandView → Option Step
+next_but_fetch h slot c =
+    cond (is_listening h && is_some (control_in c)) (Some step.Control)
     (cond (is_ready h && is_answered_at h c) (Some step.Execute)
     (cond (is_ready h && (is_some (error_log_in c) && (halted h.port.past && not (list_any has_queued h.slots)))) (Some step.Recover)
     (cond
     (is_ready h && ((not (is_some h.device.collision) && goes_to_port h c) && not (is_some (op_refusal h.port slot (work_at c)))))
     (Some step.Send)
     (cond (is_ready h && (is_sent c && (not (halted h.port.past) && is_issued (phase h.port.past slot)))) (Some step.Accept)
-    (cond (is_ready h && (is_sent c && (not (halted h.port.past) && is_accepted (phase h.port.past slot)))) (Some step.Serve) (delivery h slot)))))))
+    (cond (is_ready h && (is_sent c && (not (halted h.port.past) && is_accepted (phase h.port.past slot)))) (Some step.Serve) (delivery h slot))))))
+
+abbrev next_with : HbaView → ℕ → Option CommandView → Option Step
+next_with h slot c =
+    cond
+    (is_listening h && p_idle_selects h.registers.port && (has_place h.registers.port.ci slot && is_empty c) && not (is_overtaken h slot) && not (list_any has_alone h.slots))
+    (Some step.Fetch) (next_but_fetch h slot c)
 
 next_is : (h : HbaView) (slot : ℕ) → next_step h slot ≡ next_with h slot (command_at h slot)
 next_is h slot = refl
@@ -188,17 +191,7 @@ of_none f l r x k z a b F C E R S A V d none = rw none (rw (and_false k) (rw (an
 pub next_of_none : (h : HbaView) (slot : ℕ) → is_listening h ≡ true → command_at h slot ≡ None → next_step h slot ≡ cond (may_fetch h slot) (Some step.Fetch) None
 next_of_none h slot listening empty = by (command_at h slot) (may_fetch h slot) empty
   where
-    by : (c : Option CommandView) (f : Bool) → c ≡ None
-        → cond f (Some step.Fetch)
-        (cond (is_listening h && is_some (control_in c)) (Some step.Control)
-        (cond (is_ready h && is_answered_at h c) (Some step.Execute)
-        (cond (is_ready h && (is_some (error_log_in c) && (halted h.port.past && not (list_any has_queued h.slots)))) (Some step.Recover)
-        (cond
-        (is_ready h && ((not (is_some h.device.collision) && goes_to_port h c) && not (is_some (op_refusal h.port slot (work_at c)))))
-        (Some step.Send)
-        (cond (is_ready h && (is_sent c && (not (halted h.port.past) && is_issued (phase h.port.past slot)))) (Some step.Accept)
-        (cond (is_ready h && (is_sent c && (not (halted h.port.past) && is_accepted (phase h.port.past slot)))) (Some step.Serve) (delivery h slot)))))))
-        ≡ cond f (Some step.Fetch) None
+    by : (c : Option CommandView) (f : Bool) → c ≡ None → cond f (Some step.Fetch) (next_but_fetch h slot c) ≡ cond f (Some step.Fetch) None
     by (Some c) f e = cc
     by None f e =
         of_none f (is_listening h) (is_ready h) (halted h.port.past && not (list_any has_queued h.slots)) (not (is_some h.device.collision))

@@ -33,23 +33,15 @@ failed_is_done Broken e = refl
 failed_is_done Held e = cc
 failed_is_done Done e = cc
 
-failed_is_not_free : (p : Phase) → is_failed p ≡ true → is_free p ≡ false
-failed_is_not_free Free e = cc
-failed_is_not_free Issued e = refl
-failed_is_not_free Accepted e = refl
-failed_is_not_free Rejected e = refl
-failed_is_not_free Broken e = refl
-failed_is_not_free Held e = refl
-failed_is_not_free Done e = refl
-
-accepted_is_not_free : (p : Phase) → is_accepted p ≡ true → is_free p ≡ false
-accepted_is_not_free Free e = cc
-accepted_is_not_free Issued e = refl
-accepted_is_not_free Accepted e = refl
-accepted_is_not_free Rejected e = refl
-accepted_is_not_free Broken e = refl
-accepted_is_not_free Held e = refl
-accepted_is_not_free Done e = refl
+-- a phase is not Free if a test tells it from Free
+not_free : (test : Phase → Bool) (p : Phase) → test Free ≡ false → test p ≡ true → is_free p ≡ false
+not_free test Free tells e = cc
+not_free test Issued tells e = refl
+not_free test Accepted tells e = refl
+not_free test Rejected tells e = refl
+not_free test Broken tells e = refl
+not_free test Held tells e = refl
+not_free test Done tells e = refl
 
 has_request : (starting : List ℕ) (past : List Entry) (tag : ℕ) (o : Option WindowState) → HasWindow starting past tag o → is_free (phase past tag) ≡ false → request past tag ≡ None → ⊥
 has_request starting past tag None h f e = let free = ap is_free h in cc (free, f)
@@ -61,14 +53,14 @@ no_owner first p (Some r) e h = let s = sym (ap (λ b. cond b None (Some (number
 
 pub failed_is_owned : (old new : PortView) (tag : ℕ) → Headline old → is_failed (phase old.past tag) ≡ true → IsRecovered tag old new → owner_of new tag ≡ None → ⊥
 failed_is_owned old new tag h failed is none =
-    has_request old.starting old.past tag (window_at old tag) (h.owned tag) (failed_is_not_free (phase old.past tag) failed)
+    has_request old.starting old.past tag (window_at old tag) (h.owned tag) (not_free is_failed (phase old.past tag) refl failed)
     (no_owner new.first (recovered (phase old.past tag)) (request old.past tag) (ap is_free (failed_is_done (phase old.past tag) failed))
     (sym (ap (λ l. owner_by new.first l tag) is.appended.past_is) ∙ none))
 
 -- a command that the device has taken has a request
 pub accepted_is_owned : (port : PortView) (tag : ℕ) → Headline port → is_accepted (phase port.past tag) ≡ true → owner_of port tag ≡ None → ⊥
 accepted_is_owned port tag h accepted none =
-    let taken = accepted_is_not_free (phase port.past tag) accepted in
+    let taken = not_free is_accepted (phase port.past tag) refl accepted in
     has_request port.starting port.past tag (window_at port tag) (h.owned tag) taken (no_owner port.first (phase port.past tag) (request port.past tag) taken none)
 
 depth_after : (b : Bool) (p : PortView) → (port_after b p).depth ≡ p.depth
