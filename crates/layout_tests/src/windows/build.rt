@@ -19,25 +19,43 @@ fn has(rt: &impl Abort, row: usize, window: &Window, header: &[u8], parts: &[(us
     }
 }
 
-/// A command by its tag, and what its window has: header, command, an entry at its place, and length.
-struct Bytes {
+/// A command by its tag, and the bytes of its command FIS.
+struct Sent {
     tag: u8,
     asked: Asked,
     sectors: u32,
+    fis: &'static [u8; 20],
+}
+
+/// What the window of a command has: header, command FIS, an entry at its place, and length.
+struct Bytes {
+    sent: Sent,
     header: &'static [u8; 32],
-    command: &'static [u8; 20],
     entry: (usize, &'static [u8; 16]),
     len: usize,
 }
 
+/// A read of eight sectors.
+const EIGHT: Sent = Sent {
+    tag: 5,
+    asked: Asked::Read(0x12_3456_789A, 8),
+    sectors: 8,
+    fis: b"\x27\x80\x60\x08\x9A\x78\x56\x40\x34\x12\x00\x00\x28\x00\x00\x00\x00\x00\x00\x00",
+};
+
+/// A write of the most that one command can have.
+const LONGEST: Sent = Sent {
+    tag: 0,
+    asked: Asked::Write(65_536 * 512),
+    sectors: 65_536,
+    fis: b"\x27\x80\x61\x00\x00\x00\x00\x40\x00\x00\x00\x00\x00\x00\x00\x00\x00\x00\x00\x00",
+};
+
 /// A read of eight sectors, and a write of the most that one command can have, by 32 pieces of 1 MiB.
 static OVER_DEFAULT_PIECES: [Bytes; 2] = [
     Bytes {
-        tag: 5,
-        asked: Asked::Read(0x12_3456_789A, 8),
-        sectors: 8,
+        sent: EIGHT,
         header: b"\x05\x00\x01\x00\x00\x00\x00\x00\x00\x00\x00\x24\x00\x00\x00\x00\x00\x00\x00\x00\x00\x00\x00\x00\x00\x00\x00\x00\x00\x00\x00\x00",
-        command: b"\x27\x80\x60\x08\x9A\x78\x56\x40\x34\x12\x00\x00\x28\x00\x00\x00\x00\x00\x00\x00",
         entry: (
             0x80,
             b"\x00\x10\x00\x24\x00\x00\x00\x00\x00\x00\x00\x00\xFF\x0F\x00\x00",
@@ -45,11 +63,8 @@ static OVER_DEFAULT_PIECES: [Bytes; 2] = [
         len: 8192,
     },
     Bytes {
-        tag: 0,
-        asked: Asked::Write(65_536 * 512),
-        sectors: 65_536,
+        sent: LONGEST,
         header: b"\x45\x00\x20\x00\x00\x00\x00\x00\x00\x00\x00\x10\x00\x00\x00\x00\x00\x00\x00\x00\x00\x00\x00\x00\x00\x00\x00\x00\x00\x00\x00\x00",
-        command: b"\x27\x80\x61\x00\x00\x00\x00\x40\x00\x00\x00\x00\x00\x00\x00\x00\x00\x00\x00\x00",
         entry: (
             0x270,
             b"\x00\x10\xF0\x11\x00\x00\x00\x00\x00\x00\x00\x00\xFF\xFF\x0F\x00",
@@ -61,11 +76,13 @@ static OVER_DEFAULT_PIECES: [Bytes; 2] = [
 /// One sector; one more than a piece of 4 MiB has; eight sectors; and the most that one command can have, by eight pieces.
 static PACKED: [Bytes; 4] = [
     Bytes {
-        tag: 31,
-        asked: Asked::Read(0, 1),
-        sectors: 1,
+        sent: Sent {
+            tag: 31,
+            asked: Asked::Read(0, 1),
+            sectors: 1,
+            fis: b"\x27\x80\x60\x01\x00\x00\x00\x40\x00\x00\x00\x00\xF8\x00\x00\x00\x00\x00\x00\x00",
+        },
         header: b"\x05\x00\x01\x00\x00\x00\x00\x00\x00\x00\x00\x8C\x00\x00\x00\x00\x00\x00\x00\x00\x00\x00\x00\x00\x00\x00\x00\x00\x00\x00\x00\x00",
-        command: b"\x27\x80\x60\x01\x00\x00\x00\x40\x00\x00\x00\x00\xF8\x00\x00\x00\x00\x00\x00\x00",
         entry: (
             0x80,
             b"\x90\x00\x00\x8C\x00\x00\x00\x00\x00\x00\x00\x00\xFF\x01\x00\x00",
@@ -73,11 +90,13 @@ static PACKED: [Bytes; 4] = [
         len: 656,
     },
     Bytes {
-        tag: 0,
-        asked: Asked::Write(8_193 * 512),
-        sectors: 8_193,
+        sent: Sent {
+            tag: 0,
+            asked: Asked::Write(8_193 * 512),
+            sectors: 8_193,
+            fis: b"\x27\x80\x61\x01\x00\x00\x00\x40\x00\x00\x00\x20\x00\x00\x00\x00\x00\x00\x00\x00",
+        },
         header: b"\x45\x00\x02\x00\x00\x00\x00\x00\x00\x00\x00\x10\x00\x00\x00\x00\x00\x00\x00\x00\x00\x00\x00\x00\x00\x00\x00\x00\x00\x00\x00\x00",
-        command: b"\x27\x80\x61\x01\x00\x00\x00\x40\x00\x00\x00\x20\x00\x00\x00\x00\x00\x00\x00\x00",
         entry: (
             0x90,
             b"\xA0\x00\x40\x10\x00\x00\x00\x00\x00\x00\x00\x00\xFF\x01\x00\x00",
@@ -85,11 +104,8 @@ static PACKED: [Bytes; 4] = [
         len: 4_194_976,
     },
     Bytes {
-        tag: 5,
-        asked: Asked::Read(0x12_3456_789A, 8),
-        sectors: 8,
+        sent: EIGHT,
         header: b"\x05\x00\x01\x00\x00\x00\x00\x00\x00\x00\x00\x24\x00\x00\x00\x00\x00\x00\x00\x00\x00\x00\x00\x00\x00\x00\x00\x00\x00\x00\x00\x00",
-        command: b"\x27\x80\x60\x08\x9A\x78\x56\x40\x34\x12\x00\x00\x28\x00\x00\x00\x00\x00\x00\x00",
         entry: (
             0x80,
             b"\x90\x00\x00\x24\x00\x00\x00\x00\x00\x00\x00\x00\xFF\x0F\x00\x00",
@@ -97,11 +113,8 @@ static PACKED: [Bytes; 4] = [
         len: 4_240,
     },
     Bytes {
-        tag: 0,
-        asked: Asked::Write(65_536 * 512),
-        sectors: 65_536,
+        sent: LONGEST,
         header: b"\x45\x00\x08\x00\x00\x00\x00\x00\x00\x00\x00\x10\x00\x00\x00\x00\x00\x00\x00\x00\x00\x00\x00\x00\x00\x00\x00\x00\x00\x00\x00\x00",
-        command: b"\x27\x80\x61\x00\x00\x00\x00\x40\x00\x00\x00\x00\x00\x00\x00\x00\x00\x00\x00\x00",
         entry: (
             0xF0,
             b"\x00\x01\xC0\x11\x00\x00\x00\x00\x00\x00\x00\x00\xFF\xFF\x3F\x00",
@@ -112,10 +125,10 @@ static PACKED: [Bytes; 4] = [
 
 /// Compares a window with what a row says of it.
 fn is_as(rt: &impl Abort, row: usize, window: &Window, bytes: &Bytes) {
-    let (header, command, (place, entry)) = (bytes.header, bytes.command, bytes.entry);
+    let (header, command, (place, entry)) = (bytes.header, bytes.sent.fis, bytes.entry);
     has(rt, row, window, header, &[(0, command), (place, entry)]);
     let found = (window.bytes().len(), window.tag());
-    equal(rt, row, &found, &(bytes.len, bytes.tag));
+    equal(rt, row, &found, &(bytes.len, bytes.sent.tag));
 }
 
 #[test]
@@ -123,9 +136,14 @@ fn the_bytes_of_a_read_of_eight_sectors_and_of_the_longest_write(
     rt: HostRuntime,
 ) -> Result<(), Fail> {
     for (row, bytes) in OVER_DEFAULT_PIECES.iter().enumerate() {
-        assert!(rt; bytes.tag < 32);
-        let op = op_of(rt.alloc(), bytes.asked)?;
-        let window = Window::build(rt.alloc(), bytes.tag, &op, &default_pieces(bytes.sectors))?;
+        assert!(rt; bytes.sent.tag < 32);
+        let op = op_of(rt.alloc(), bytes.sent.asked)?;
+        let window = Window::build(
+            rt.alloc(),
+            bytes.sent.tag,
+            &op,
+            &default_pieces(bytes.sent.sectors),
+        )?;
         is_as(&rt, row, &window, bytes);
     }
     Ok(())
@@ -134,20 +152,20 @@ fn the_bytes_of_a_read_of_eight_sectors_and_of_the_longest_write(
 #[test]
 fn packed_data_begin_behind_the_prdt(rt: HostRuntime) -> Result<(), Fail> {
     for (row, bytes) in PACKED.iter().enumerate() {
-        assert!(rt; bytes.tag < 32);
-        let op = op_of(rt.alloc(), bytes.asked)?;
+        assert!(rt; bytes.sent.tag < 32);
+        let op = op_of(rt.alloc(), bytes.sent.asked)?;
         let None = default_fault(&op) else {
             panic!(rt; "no window is built");
         };
         let (window, command) = Window::over_layout(
             rt.alloc(),
-            bytes.tag,
+            bytes.sent.tag,
             &op,
             false,
             PieceLayout::Packed,
         )?;
         is_as(&rt, row, &window, bytes);
-        equal(&rt, row, &command.queued.sectors, &bytes.sectors);
+        equal(&rt, row, &command.queued.sectors, &bytes.sent.sectors);
     }
     Ok(())
 }
