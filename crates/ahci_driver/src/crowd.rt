@@ -8,7 +8,7 @@ use std::sync::atomic::Ordering::SeqCst;
 use std::thread;
 
 /// How often a worker lets the others go first before it carries on: some may wait for what no worker does.
-const MOST_YIELDS: u32 = 64;
+const MOST_YIELDS: u32 = 2;
 
 /// How many workers of a run have jobs left, and how many requests are outstanding. Only the schedule depends on it.
 #[derive(Drop)]
@@ -55,10 +55,10 @@ impl Crowd {
     }
 }
 
-/// Whether seven in eight of the requests that there can be at once are outstanding.
+/// Whether three in four of the requests that there can be at once are outstanding.
 fn is_enough(outstanding: usize, working: usize, depth: usize) -> bool
     ensures { result ≡ is_enough outstanding working depth }
 {
     let most = working.min(depth);
-    outstanding >= most - most / 8
+    outstanding >= most - most / 4
 }
