@@ -1,5 +1,5 @@
 -- One piece more, and no more than 32.
-use Rattle.std.proofs.Common.{◌≤◌, ◌∷◌, [], ◌++◌, map, length, ap, ◌∙◌, sym, arith}
+use Rattle.std.proofs.Common.{◌∷◌, [], ◌++◌, map, length, ap, ◌∙◌, sym, arith}
 use Rattle.std.specs.List.{range_with_len}
 use Rattle.std.proofs.lemmas.List.FromFn.{length-map-range_with_len, map-range_with_len_more}
 use Rattle.ahci_table.specs.Defaults.{piece_from}
