@@ -6,7 +6,7 @@ import re
 import subprocess
 from typing import List, Sequence, Tuple
 
-import booting
+import errors
 import images
 from harness import PROGRAM, SANITIZED, SECTOR, Guest, contents, digest, linux, makes
 from images import VFIO_USER
@@ -89,7 +89,7 @@ def refused(room: str) -> str:
 def linux_exchanged(room: str) -> str:
     """Linux reads and writes in a full queue when its disk is pulled out and another one plugged in: it finds another serial number, its user sees each request that fails, and no
     write for the first disk comes to the second one."""
-    image, other, record = booting.numbered(room), written(room, "other.img", images.pattern(1 << 21, "other")), os.path.join(room, "record")
+    image, other, record = errors.numbered(room), written(room, "other.img", images.pattern(1 << 21, "other")), os.path.join(room, "record")
     before = contents(other)
     script = written(room, "it.events", f"on every READ FPDMA QUEUED do slow 20ms\non 1000th any do unplug then wait 2s then plug another {other}\n".encode())
     guest = Guest(room, ["--image", image, "--script", script, "--record", record, "--delay", "2000", "--pick", "random"], linux(room, "other"))

@@ -5,7 +5,7 @@ import os
 import subprocess
 from typing import List, Sequence, Tuple
 
-import booting
+import errors
 from harness import HERE, PROGRAM, SANITIZED, Guest
 from images import VFIO_USER
 import pace
@@ -197,7 +197,7 @@ READS = "requests 5000 compared 5000 errors 0 wrong 0"
 
 def interrupted(room: str, script: str, linux_says: Sequence[str]) -> Guest:
     """5,000 reads of Linux while a script of interrupts goes on: all come right."""
-    guest = booting.troubled(room, "stall", ["--script", script_of(room, script), "--pick", "random"], [r"(lose|late|send)_interrupt.*", "an interrupt is lost"], linux_says)
+    guest = errors.troubled(room, "stall", ["--script", script_of(room, script), "--pick", "random"], [r"(lose|late|send)_interrupt.*", "an interrupt is lost"], linux_says)
     expect(guest.results()["reads"] == READS, f"reads: {guest.results()['reads']}")
     return guest
 
@@ -212,7 +212,7 @@ def linux_strange(room: str) -> str:
 
 def linux_lost(room: str) -> str:
     """An interrupt is lost while the queue is full: Linux resets the link when a command's time is up, and reads all."""
-    guest = interrupted(room, "on 2000th any do lose_interrupt", [*booting.ENDED, r"ata1: hard resetting link"])
+    guest = interrupted(room, "on 2000th any do lose_interrupt", [*errors.ENDED, r"ata1: hard resetting link"])
     expect(sum(it == "an interrupt is lost" for it in guest.log()) == 1, "no interrupt was lost")
     return "5,000 reads right after a lost interrupt"
 

@@ -10,7 +10,7 @@ import os
 import re
 from typing import Any, Dict, List, NamedTuple, Sequence, Tuple
 
-import booting
+import errors
 import images
 from harness import BROKE_A_RULE, USUAL_OF_LINUX, Guest, contents, digest, linux
 from images import HERE
@@ -145,7 +145,7 @@ def lines_of(guest: Guest) -> List[str]:
 def outcome(room: str, folder: str, event: Event) -> Dict[str, Any]:
     """A run of guests/survive.sh while an event's script goes on: what came of the requests, what Linux wrote, and what the judge reports."""
     path, found = os.path.join(room, "it.events"), os.path.join(room, "judged.json")
-    image = last = booting.numbered(room)
+    image = last = errors.numbered(room)
     text = text_of(event)
     if event.is_exchanged:
         last = f"{image}.other"

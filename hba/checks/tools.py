@@ -4,7 +4,7 @@ from __future__ import annotations
 import re
 from typing import Dict, List, NamedTuple, Sequence, Tuple
 
-from booting import ENDED, MEDIUM
+from errors import ENDED, MEDIUM
 from harness import Guest, blank, digest, linux
 from images import pattern
 from suite import Check, Failed, expect

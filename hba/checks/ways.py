@@ -5,6 +5,7 @@ from typing import List
 
 import booting
 import debian
+import errors
 import firmware
 import images
 import judging
@@ -68,7 +69,7 @@ def ways_of(check: Check, has_new: bool) -> List[Check]:
 
 def checks() -> List[Check]:
     has_new = has_qemu(VFIO_USER)
-    both = [*rough.CHECKS, *recording.CHECKS, *booting.CHECKS, *debian.CHECKS, *judging.CHECKS, *provoked.CHECKS, *recovered.CHECKS, *surviving.CHECKS,
+    both = [*rough.CHECKS, *recording.CHECKS, *booting.CHECKS, *errors.CHECKS, *debian.CHECKS, *judging.CHECKS, *provoked.CHECKS, *recovered.CHECKS, *surviving.CHECKS,
             *shipped.CHECKS, *firmware.CHECKS, *losing.CHECKS, *others.CHECKS, *tools.CHECKS, *trimming.CHECKS]
     found = [it for check in both for it in ways_of(check, has_new)] + served.CHECKS
     return found if has_new else [Check(missing_qemu, title="A QEMU with vfio-user"), *found]
