@@ -14,6 +14,7 @@ LEVELS = {
     "sloppy": "breaks a rule here and there",
     "wild": "writes anything anywhere",
     "held": "goes on while commands are held in the disk",
+    "seldom": "asks what the others hardly ever ask: counts of 0, accesses of 8 bytes, resets that find a status, errors without log 10h",
 }
 SLOTS = (0, 0, 0, 1, 2, 3, 7, 31)
 ENABLED = 0x7840007F
@@ -26,7 +27,7 @@ class Maker:
     def __init__(self, seed: int, level: str) -> None:
         self.dice = random.Random(f"{seed} {level}")
         self.level = level
-        self.lawful = level in ("good", "clean", "errors", "held")
+        self.lawful = level in ("good", "clean", "errors", "held", "seldom")
         self.ops: Program = []
         self.commands = Commands(self.dice)
         self.list, self.area = layout.LIST, layout.AREA
@@ -289,4 +290,5 @@ class HeldMaker(Maker):
 
 
 def program(seed: int, level: str) -> Program:
-    return (HeldMaker if level == "held" else Maker)(seed, level).make()
+    from .seldom import SeldomMaker  # which is made of a Maker
+    return {"held": HeldMaker, "seldom": SeldomMaker}.get(level, Maker)(seed, level).make()

@@ -49,7 +49,7 @@ def read_is_partial(it: Moment) -> bool:
     assert it.was
     reads = [(one, most) for one, most in failing(it) if not one.asked.write]
     for one, most in reads:
-        size = layout.SECTOR * one.asked.count
+        size = layout.SECTOR * min(one.asked.count, layout.SECTORS)  # behind them nothing can have come
         now, before = gathered(it.emulator, one, size), gathered(it.was, one, size)
         if now is None or before is None:
             return False

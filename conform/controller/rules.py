@@ -1,5 +1,5 @@
 """The rule that a difference breaks, by name: what a report says beside the place. Rules judged on a side alone have theirs in alone.py."""
-from typing import FrozenSet, Iterator, List, NamedTuple, Tuple
+from typing import FrozenSet, Iterator, List, NamedTuple, Set, Tuple
 
 from . import alone, layout
 from .compare import Difference
@@ -9,6 +9,7 @@ STOP = "ST is cleared and PxCI, PxSACT and CCS are 0"
 BUSY = "no command is taken while BSY or DRQ"
 FIS_PLACE = "a received FIS has its own place in the area"
 DATA = "data go where the PRDT says, and nowhere else"
+FIS_TYPES = {"DMA Setup FIS": b"\x41", "PIO Setup FIS": b"\x5F", "D2H Register FIS": b"\x34", "Set Device Bits FIS": b"\xA1"}
 
 
 class Rule(NamedTuple):
@@ -49,6 +50,7 @@ RULES: Tuple[Rule, ...] = (
     rule("CCS is the slot of the command that was issued last", "3.3.7", "PxCMD", 0x1F00),
     rule("CR is 1 while the list runs, FR while FISes are received", "3.3.7", "PxCMD", 0xC000),
     rule("ST, FRE, SUD and POD are what software writes", "3.3.7", "PxCMD", 0x17),
+    rule("CLO reads 0 once BSY and DRQ are cleared", "3.3.7", "PxCMD", 0x8),
     # errors
     rule("log 10h names the command that failed, and its sector", "6.2.2; ACS-3, log 10h", "data, D2H Register FIS, PxTFD", when="command 2F"),
     rule("after an error PxCI keeps its slots until ST is cleared", "3.3.14, 6.2.2", "PxCI", when="model fails"),
@@ -71,6 +73,7 @@ RULES: Tuple[Rule, ...] = (
     rule("PCS and PRCS are DIAG.X and DIAG.N", "3.3.5, 3.3.12", "PxIS", 0x00400040),
     rule("DIAG.X and DIAG.N are cleared by PxSERR alone", "3.3.5, 3.3.12", "PxSERR", 0x04010000, "write PxIS"),
     rule("DIAG.X is set by COMINIT, DIAG.N by PhyRdy", "3.3.12", "PxSERR", 0x04010000),
+    rule("bits of PxSERR are cleared by a 1 that is written, and set by events alone", "3.3.12", "PxSERR"),
     rule("PxIE is what software writes", "3.3.6", "PxIE"),
     # the task file and the link
     rule("PxTFD is 7Fh while the link is down", "3.3.8", "PxTFD", when="link down"),
@@ -82,8 +85,12 @@ RULES: Tuple[Rule, ...] = (
     rule("PxSACT keeps a tag until a Set Device Bits FIS names it", "3.3.13", "PxSACT"),
     rule("PxCI keeps a slot until its command's FIS ends BSY, DRQ and ERR", "3.3.14", "PxCI"),
     rule("PRDBC is the number of bytes that were moved", "4.2.2, 5.4.1", "PRDBC"),
-    rule("E_Status is the status after the data", "Serial ATA, PIO Setup - Device to Host", "PIO Setup FIS"),
-    rule(FIS_PLACE, "4.2.1", "DMA Setup FIS, D2H Register FIS, Set Device Bits FIS, rest of the FIS area"),
+    rule("E_Status is the status after the data", "Serial ATA, PIO Setup - Device to Host", "PIO Setup FIS", when="FIS there, E_Status"),
+    rule("a PIO Setup FIS has the direction, I and the length of its block", "Serial ATA, PIO Setup - Device to Host", "PIO Setup FIS", when="FIS there"),
+    rule("a DMA Setup FIS has the tag, the direction and the length of its command", "Serial ATA, DMA Setup - Device to Host", "DMA Setup FIS", when="FIS there"),
+    rule("a Set Device Bits FIS has the tags that are done", "Serial ATA, Set Device Bits - Device to Host", "Set Device Bits FIS", when="FIS there"),
+    rule("a D2H Register FIS has I and the outputs of its command", "Serial ATA, Register - Device to Host; ACS-3, outputs", "D2H Register FIS", when="FIS there"),
+    rule(FIS_PLACE, "4.2.1", "DMA Setup FIS, PIO Setup FIS, D2H Register FIS, Set Device Bits FIS, rest of the FIS area"),
     rule(DATA, "4.2.3.3", "data, disk, memory beside, command header, command table"),
 )
 SECTIONS = {**{it.name: it.section for it in RULES}, **{name: it.section for name, it in alone.RULES.items()}}
@@ -98,7 +105,14 @@ def rules_of(it: Difference, facts: FrozenSet[str]) -> List[str]:
     side, colon, name = it.place.partition(": ")
     if colon and name in alone.RULES:
         return [name]
-    return list(dict.fromkeys(first_of(it, facts | it.facts)))
+    return list(dict.fromkeys(first_of(it, facts | it.facts | fis_facts(it))))
+
+
+def fis_facts(it: Difference) -> Set[str]:
+    """Whether a FIS has come to its place, so that its bytes alone are others; and whether the one of E_Status is."""
+    if it.got[:1] != FIS_TYPES.get(it.place):
+        return set()
+    return {"FIS there", *(["E_Status"] if it.place == "PIO Setup FIS" and it.mask[15] else [])}
 
 
 def first_of(it: Difference, facts: FrozenSet[str]) -> Iterator[str]:

@@ -248,7 +248,7 @@ _RULES: Dict[Type[Server], str] = {
     HalfOfEnable: "PxIE is what software writes", BytesAreWords: "an access writes the bytes that it has, and no others",
     StatusIsAWord: "bits of PxIS are cleared by a 1 that is written, and set by events alone",
     ResetClearsBases: "GHC.HR leaves PxCLB and PxFB", StopsNever: "ST, FRE, SUD and POD are what software writes", RegisterFisBehind: _PLACE,
-    HalfOfBitsFis: _PLACE, NoDmaSetup: _PLACE, NoCount: _COUNT,
+    HalfOfBitsFis: "a Set Device Bits FIS has the tags that are done", NoDmaSetup: _PLACE, NoCount: _COUNT,
     CountOfSectors: _COUNT, WritesBehindData: "data go where the PRDT says, and nowhere else", LineWithoutGlobalEnable: _LINE, LineNever: _LINE,
 }
 FAULTS: List[Fault] = [Fault(it.__name__, (it.__doc__ or "").strip(), it, places, _RULES[it]) for it, places in _PLACES.items()]

@@ -92,7 +92,7 @@ class Judged(unittest.TestCase):
     def test_programs_that_keep_the_rules_break_none_that_leaves_a_controller_free(self) -> None:
         from controller.library import Library
         worker = Worker(Library, NOTHING)
-        for level in ("good", "clean", "errors"):
+        for level in ("good", "clean", "errors", "seldom"):
             for seed in range(1, 9):
                 ops = program(seed, level)
                 beside = Beside(worker.model, NOTHING, ops, worker.recorded(ops), {})
@@ -132,7 +132,7 @@ class Options(unittest.TestCase):
             (["--emulator", "stand-in", "--seed", "1-3", "--quiet"], 0, "| with a new difference | 0 |"),
             (["--emulator", "stand-in", "--fault", "no_sdbs", "--seed", "1-30", "--quiet"], 1, "PxIS  (AHCI 1.3.1, section 3.3.5)"),
             (["--seed", "3-1"], 2, "'3-1' names no seeds"),
-            (["--level", "best", "--seed", "1"], 2, "there is no level 'best': good, clean, errors, sloppy, wild, held"),
+            (["--level", "best", "--seed", "1"], 2, "there is no level 'best': good, clean, errors, sloppy, wild, held, seldom"),
             (["--emulator", "bochs", "--seed", "1"], 2, "there is no emulator 'bochs'"),
             (["--emulator", "stand-in", "--fault", "none", "--seed", "1"], 2, "there is no fault 'none'"),
             (["--qemu", "/no/qemu", "--known", "none", "--seed", "1"], 3, "there is no /no/qemu"),
