@@ -2,7 +2,7 @@
 use Rattle.std.proofs.Common.{◌≡◌, ℕ, ◌<◌, ◌≤◌, Bool, false, ◌||◌, ◌+◌, ◌-◌, ◌++◌, List, [], ◌∷◌, set, replicate, get_or-set_same, get_or-set_other, length-set, is_some}
 use Rattle.std.proofs.Common.{IsSomeAnd, length, map, take, get_or, nat_eq, below_more, ap, sym, refl, subst, ◌∙◌, Option, None, Some, IsSome, arith, inl, inr}
 use Rattle.std.specs.List.{slice_get}
-use Rattle.std.specs.Prelude.{◌↔◌, IsTrue}
+use Rattle.std.specs.Prelude.{◌↔◌, IsTrue, Result, Ok, Err, IfErr, IsErrAnd}
 use Rattle.std.proofs.lemmas.List.{length-map}
 use Rattle.std.specs.Option.{option_and_then, option_map}
 use Rattle.std.proofs.lemmas.Bool.{cases_lt, cases_eq, eq-eqb, ne_eqb, or_left, or_right}
@@ -19,7 +19,9 @@ use Rattle.ncq_journal.proofs.NumberLemmas.{none_below_first, none_from_end, pla
 use Rattle.ahci_port.specs.PortView.{PortView}
 use Rattle.ahci_driver.specs.declared.receipt.Receipt.{Receipt}
 use Rattle.ahci_driver.specs.Received.{Received, received_of, is_named}
-use Rattle.ahci_driver.specs.Settled.{AllRight, AreClaimed, AreFit, Fits, IsFit, IsOfJob, IsRight, answered_as, claim_of, issued_as, work_in}
+use Rattle.ahci_driver.specs.Settled.{AllRight, AreClaimed, AreFit, Fits, IsFit, IsOfJob, IsRight, IsUnsettled, answered_as, claim_of, issued_as, work_in}
+use Rattle.ahci_driver.specs.declared.fault.SettleFault.{SettleFault}
+use Rattle.ahci_driver.specs.declared.fault.SettleFault.TheVariants.{OutOfMemory}
 
 -- what was issued has a number from the journal's first to its end
 pub issued_from : (port : PortView) (n : ℕ) → IsSome (issued_as port n) → port.first ≤ n
@@ -44,6 +46,15 @@ mapped f xs i x low e = slice_get-map f xs i ∙ ap (option_map f) (slice_get_re
 pub counted : {A B : _} (receipts : List (Receipt A)) (jobs : List (Op B)) → length receipts ≡ length jobs → length (map received_of receipts) ≡ length (map work_of jobs)
 counted receipts jobs e = length-map receipts received_of ∙ e ∙ sym (length-map jobs work_of)
 
+pub counted_back : {A B : _} (receipts : List (Receipt A)) (jobs : List (Op B)) → length (map received_of receipts) ≡ length (map work_of jobs) → length receipts ≡ length jobs
+counted_back receipts jobs e = sym (length-map receipts received_of) ∙ e ∙ length-map jobs work_of
+
+-- memory was wanted once the receipts were counted
+pub lacking : {T : Type 0} (port : PortView) (jobs : List Work) (receipts : List Received) (workers : ℕ) (x : Result T SettleFault) → IsErrAnd x (λ fault. fault ≡ OutOfMemory)
+    → length receipts ≡ length jobs → IfErr x (IsUnsettled port jobs receipts workers)
+lacking port jobs receipts workers (Ok done) is e = tt
+lacking port jobs receipts workers (Err fault) is e = subst (IsUnsettled port jobs receipts workers) (sym is) e
+
 -- the receipts of all jobs
 pub all_right : {B : _} (port : PortView) (jobs : List (Op B)) (receipts : List Received) (workers n : ℕ) → length jobs ≤ n
     → AllRight port (map work_of jobs) receipts workers n → AllRight port (map work_of jobs) receipts workers (length (map work_of jobs))
@@ -56,6 +67,24 @@ claimed_none receipts first n = record {
   named = λ k low. ap is_some (get_or-replicate n k None None low);
   each = λ j low. absurd (let none : ⊥ = omega arith in none);
 }
+
+-- before the first receipt all fit
+pub none_fit : (port : PortView) (jobs : List Work) (receipts : List Received) (workers n : ℕ) (claims : List (Option Answer)) → n ≡ length port.past
+    → claims ≡ replicate n None → AreFit port jobs receipts workers 0 claims
+none_fit port jobs receipts workers n claims same none = record {
+  within = omega arith;
+  fit = λ i low. absurd (let none : ⊥ = omega arith in none);
+  claimed = subst (AreClaimed receipts port.first (length port.past) 0) (sym (none ∙ ap (λ k. replicate k None) same)) (claimed_none receipts port.first (length port.past));
+}
+
+-- whether a request was claimed, as the code reads it at the place of its number
+pub read_claim : (receipts : List Received) (first n i number start : ℕ) (claims : List (Option Answer)) (x : Option Answer) → AreClaimed receipts first n i claims
+    → first ≤ number → number < number_of first n → start ≡ first → x ≡ get_or claims (number - start) x → is_named (take i receipts) number ≡ is_some x
+read_claim receipts first n i number start claims x h low high same e =
+    let inside : number - start < n = omega arith in
+    let place : number ≡ number_of first (number - start) = omega arith in
+    ap (is_named (take i receipts)) place ∙ sym (h.named (number - start) inside)
+    ∙ ap is_some (get_or_from_slice_get claims (number - start) x None (slice_get_read claims n (number - start) x (sym h.count) inside e))
 
 -- one receipt more, of whose request nothing was claimed
 pub claimed_more : (receipts : List Received) (first n i place : ℕ) (claims : List (Option Answer)) (r : Received) → slice_get receipts i ≡ Some r

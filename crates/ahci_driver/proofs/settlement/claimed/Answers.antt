@@ -1,10 +1,12 @@
-use Rattle.std.proofs.Common.{◌≡◌, ◌+◌, ◌-◌, ◌∙◌, Some, length, map, set, sym, subst, arith}
+use Rattle.std.proofs.Common.{◌≡◌, ◌+◌, ◌-◌, ◌∙◌, Some, ap, length, map, set, sym, subst, arith}
 use Rattle.std.proofs.lemmas.List.{length-map}
 use Rattle.std.specs.List.{slice_get}
+use Rattle.std.proofs.lemmas.Bool.{true≢false}
+use Rattle.ncq_journal.proofs.HistoryLemmas.{length_history}
 use Rattle.ncq_journal.specs.Work.{work_of}
 use Rattle.ahci_driver.specs.Received.{received_of}
-use Rattle.ahci_driver.specs.Settled.{AreFit}
-use Rattle.ahci_driver.proofs.SettlingLemmas.{IsWithin, fit_more, fit_within, mapped}
+use Rattle.ahci_driver.specs.Settled.{AreClaimed, AreFit}
+use Rattle.ahci_driver.proofs.SettlingLemmas.{IsWithin, fit_more, fit_within, mapped, none_fit}
 use Rattle.ahci_driver.proofs.settlement.claimed.Goals as goal
 use Rattle.ahci_driver.proofs.settlement.claimed.Goals.{After-index-receipts-index}
 
@@ -22,6 +24,31 @@ here g c =
 -- the number that the code counts from
 first : (g : _) (c : After-index-receipts-index g) → c.first-first.result ≡ c.args.port.now.first
 first g c = c.first-first.ensures.first ∙ c.journal-journal.ensures.first
+
+pub loop-index-init : goal.loop-index-init
+loop-index-init g c =
+    none_fit c.args.port.now (map work_of c.args.jobs.now) (map received_of c.args.receipts.now) c.args.workers (length c.entries.result.now) c.in_ok-places.places.items
+    (sym (length_history c.entries.result.now) ∙ ap length (c.entries.ensures ∙ c.journal-journal.ensures.past)) c.in_ok-places.ensures
+
+pub fits-requires-clause-job : goal.fits-requires-clause-job
+fits-requires-clause-job g c = c.loop-index-test.true
+
+pub fits-requires-clause-receipt : goal.fits-requires-clause-receipt
+fits-requires-clause-receipt g c = let same = c.requires in let low = c.loop-index-test.true in omega arith
+
+pub fits-requires-clause-claims : goal.fits-requires-clause-claims
+fits-requires-clause-claims g c =
+    subst (AreClaimed (map received_of c.args.receipts.now) c.args.port.now.first (length c.args.port.now.past) c.loop-index.index) (sym c.deref.ensures.value)
+    c.loop-index.invariant.claimed
+
+pub bounds-receipts-index : goal.bounds-receipts-index
+bounds-receipts-index g c = let same = c.requires in let low = c.loop-index-test.true in omega arith
+
+pub returns-then-not-fits-clause-fit : goal.returns-then-not-fits-clause-fit
+returns-then-not-fits-clause-fit g c = c.loop-index.invariant
+
+pub returns-then-not-fits-clause-end : goal.returns-then-not-fits-clause-end
+returns-then-not-fits-clause-end g c = λ low fits. true≢false (sym (c.fits.ensures.1 fits) ∙ c.if-not-fits.true)
 
 pub overflow_sub-receipt : goal.overflow_sub-receipt
 overflow_sub-receipt g c =
@@ -61,3 +88,6 @@ returns-clause-fit g c =
     let count = length-map c.args.jobs.now work_of in
     let end : c.loop-index.index ≡ length c.args.jobs.now = omega arith in
     subst (λ n. AreFit c.args.port.now (map work_of c.args.jobs.now) (map received_of c.args.receipts.now) c.args.workers n c.loop-index.places.items) end c.loop-index.invariant
+
+pub returns-clause-end : goal.returns-clause-end
+returns-clause-end g c = λ low. absurd (let none : ⊥ = omega arith in none)

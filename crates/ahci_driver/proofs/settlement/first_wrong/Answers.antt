@@ -18,6 +18,15 @@ right g c =
     (mapped received_of c.args.receipts.now c.loop-index.index c.index-receipts-index.result (omega arith) c.index-receipts-index.is)
     (c.first-first.ensures.first ∙ c.journal.ensures.first) c.is_held.ensures
 
+pub loop-index-init : goal.loop-index-init
+loop-index-init g c = λ i low. absurd (let none : ⊥ = omega arith in none)
+
+pub bounds-receipts-index : goal.bounds-receipts-index
+bounds-receipts-index g c =
+    let within = fit_count c.args.jobs.now c.args.claims.now.count c.requires.fit.within in
+    let same = c.requires.counted in
+    let low = c.loop-index-test.true in omega arith
+
 pub is_held-requires : goal.is_held-requires
 is_held-requires g c =
     let within = fit_count c.args.jobs.now c.args.claims.now.count c.requires.fit.within in
