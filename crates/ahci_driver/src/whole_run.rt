@@ -53,7 +53,6 @@ fn bad_job<A: Allocator>(jobs: &[Op<A>]) -> Option<usize>
 }
 
 /// Why a run isn't begun.
-#[tactic(auto, using(crate::proofs::RunningLemmas::fresh, crate::proofs::RunningLemmas::not_fresh))]
 fn early_fault<A: Allocator>(port: &Port<A>, jobs: &[Op<A>]) -> Option<RunFault>
     ensures { MatchOption result (MayRun port.now (map work_of jobs.now)) (IsGivenUp port.now (map work_of jobs.now)) }
 {

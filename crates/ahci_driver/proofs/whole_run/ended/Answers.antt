@@ -8,6 +8,24 @@ use Rattle.ahci_driver.specs.Running.{why_stopped}
 use Rattle.ahci_driver.proofs.RunningLemmas.{all_late, ended_whole, for_these, replies_are, stopped_names}
 use Rattle.ahci_driver.proofs.whole_run.ended.Goals as goal
 
+pub in_order-requires-clause-some : goal.in_order-requires-clause-some
+in_order-requires-clause-some g c = c.requires.some
+
+pub in_order-requires-clause-each : goal.in_order-requires-clause-each
+in_order-requires-clause-each g c = c.requires.each.0
+
+pub checked-requires : goal.checked-requires
+checked-requires g c = c.requires.some
+
+pub returns-in-Some-clause-late : goal.returns-in-Some-clause-late
+returns-in-Some-clause-late g c = c.in-Some.ensures.late
+
+pub returns-clause-still : goal.returns-clause-still
+returns-clause-still g c = c.checked.ensures.still
+
+pub returns-clause-settled : goal.returns-clause-settled
+returns-clause-settled g c = c.checked.ensures.settled
+
 pub returns-in-Some-clause-names : goal.returns-in-Some-clause-names
 returns-in-Some-clause-names g c =
     stopped_names (length (map work_of c.args.jobs.now)) c.args.ends.items c.in-Some.fault c.requires.among
