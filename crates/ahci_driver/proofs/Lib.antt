@@ -9,3 +9,4 @@ pub mod TrimmingLemmas
 pub mod SharingLemmas
 pub mod LeavingLemmas
 pub mod GatheringLemmas
+pub mod StoppingLemmas
