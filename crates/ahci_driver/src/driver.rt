@@ -140,6 +140,7 @@ impl<A: Allocator + Clone> Driver<A> {
     /// # Errors
     /// `NoTag` where each tag was found taken when it was tried; `Build` where no window is built for the command, or
     /// memory for it, for the buffer or for the copy was refused; `Issue` where the port didn't issue it.
+    #[tactic(auto, using(crate::proofs::SubmittingLemmas::given_back, crate::proofs::SubmittingLemmas::fit_refused))]
     pub fn submit(
         &self,
         rt: &impl Wait,
