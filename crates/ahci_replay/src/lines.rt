@@ -28,7 +28,9 @@ pub(crate) fn answer_line<T: AnswerWriter<A>, A: Allocator + Copy>(
     match read_line(line) {
         Err(_) => Err(ScriptFault::Line(number)),
         Ok(Line::Skip) => Ok(()),
-        Ok(Line::Run(command)) => { answer_command(session, output, answers, number, line, command) }
+        Ok(Line::Run(command)) => {
+            answer_command(session, output, answers, number, line, command)
+        }
     }
 }
 
