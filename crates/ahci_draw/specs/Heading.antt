@@ -1,4 +1,4 @@
--- What comes before the rows of a picture. It has no style listing: each colour is where it is used, so that nothing of a
+-- What comes before the rows of a picture. It has no style sheet: each colour is where it is used, so that nothing of a
 -- picture reaches the rest of a page.
 use Rattle.std.specs.Prelude.{ℕ, ◌+◌, ◌-◌, ◌*◌, List, ◌++◌, codes, max, min}
 use Rattle.ahci_draw.specs.Overview.{overview_height}
