@@ -1,7 +1,7 @@
 use std::alloc::{AllocError, Allocator, Global};
 use std::marker::Model;
 
-/// ReservedBuffer for so many bytes, with none in it. Contracts see how many.
+/// Room for so many bytes, with none in it. Contracts see how many.
 #[derive(Drop)]
 pub struct ReservedBuffer<A: Allocator = Global> {
     bytes: Vec<u8, A>,
