@@ -167,7 +167,7 @@ static void takes(uint32_t offset, uint32_t value)
     case AHCI_REG_PXIE: reg.ie = value & 0x7DC0007Fu; break;
     case AHCI_REG_PXCMD: takes_command(value); break;
     case AHCI_REG_PXSCTL:
-        reg.sctl = value & 0xFFF;
+        reg.sctl = value & 0xFFFFF;
         if ((value & 15) == RESET || (value & 15) == OFFLINE)
             link_to(value & 15);
         else if ((value & 15) == 0 && (reg.link == RESET || reg.link == OFFLINE)) /* 0 over 0 asks for nothing (section 3.3.11) */

@@ -147,8 +147,8 @@ stays_gone s value PxCmd h =
     either (not s.port.sud && (next_power s.port value).sud) (spun_up (next_power s.port value) s.port.link) (next_power s.port value) IsGone
     (spun_gone (next_power s.port value) s.port.link h.1 h) h
 stays_gone s value PxSctl h =
-    subst (λ b. IsGone (relinked (record s.port { sctl = value % 2 ^ 12 }) s.port.link (asked_link (value % 2 ^ 4) b s.port.sud s.port.link))) (sym h.0)
-    (asked_gone (nat_eq (value % 2 ^ 4) 0) (nat_eq (value % 2 ^ 4) 1) (nat_eq (value % 2 ^ 4) 4) s.port.sud (record s.port { sctl = value % 2 ^ 12 }) s.port.link h.1 h)
+    subst (λ b. IsGone (relinked (record s.port { sctl = value % 2 ^ 20 }) s.port.link (asked_link (value % 2 ^ 4) b s.port.sud s.port.link))) (sym h.0)
+    (asked_gone (nat_eq (value % 2 ^ 4) 0) (nat_eq (value % 2 ^ 4) 1) (nat_eq (value % 2 ^ 4) 4) s.port.sud (record s.port { sctl = value % 2 ^ 20 }) s.port.link h.1 h)
 stays_gone s value PxSact h = either s.port.st _ s.port IsGone h h
 stays_gone s value PxCi h = either s.port.st _ s.port IsGone h h
 stays_gone s value r h = h

@@ -154,7 +154,7 @@ commands_stay s value PxCmd e =
     let kept = powered_kept (commanded_by s.port value) (has_place (bits value) 1) (has_place (bits value) 26) (has_place (bits value) 27) d.0 in
     λ i. (λ h. ap (λ x. has_place x i) kept.0 ∙ sent_on stops s.port.sact i d.1 h, λ h. ap (λ x. has_place x i) kept.1 ∙ sent_on stops s.port.ci i d.1 h)
 commands_stay s value PxSctl e =
-    let kept = linked (record s.port { sctl = value % 2 ^ 12 }) s.port.link (asked_link (value % 2 ^ 4) s.port.present s.port.sud s.port.link) e in
+    let kept = linked (record s.port { sctl = value % 2 ^ 20 }) s.port.link (asked_link (value % 2 ^ 4) s.port.present s.port.sud s.port.link) e in
     λ i. (λ h. ap (λ x. has_place x i) kept.0 ∙ h, λ h. ap (λ x. has_place x i) kept.1 ∙ h)
 commands_stay s value PxSact e =
     either s.port.st _ s.port (KeepsCommands s.port) (λ i. (gained s.port.capabilities.ncs s.port.sact (bits value) i, λ h. h)) (keeps_own s.port)
@@ -222,7 +222,7 @@ all_dropped s value Ghc n =
 all_dropped s value PxCmd n =
     command_dropped (spins_up s.port value) (next_power s.port value) (s.port.st && not (has_place (bits value) 0)) s.port.sact s.port.ci refl refl n
 all_dropped s value PxSctl n =
-    link_dropped (record s.port { sctl = value % 2 ^ 12 }) s.port.link (asked_link (value % 2 ^ 4) s.port.present s.port.sud s.port.link) n
+    link_dropped (record s.port { sctl = value % 2 ^ 20 }) s.port.link (asked_link (value % 2 ^ 4) s.port.present s.port.sud s.port.link) n
 all_dropped s value r n = absurd (n refl)
 
 -- ---- a port that is stopped
@@ -303,7 +303,7 @@ can_stays s value PxFb = either s.port.fre s.port _ (λ p. p.capabilities ≡ s.
 can_stays s value PxFbu =
     either s.port.capabilities.s64a _ s.port (λ p. p.capabilities ≡ s.port.capabilities) (either s.port.fre s.port _ (λ p. p.capabilities ≡ s.port.capabilities) refl refl) refl
 can_stays s value PxCmd = power_can (spins_up s.port value) (next_power s.port value)
-can_stays s value PxSctl = link_can (record s.port { sctl = value % 2 ^ 12 }) s.port.link (asked_link (value % 2 ^ 4) s.port.present s.port.sud s.port.link)
+can_stays s value PxSctl = link_can (record s.port { sctl = value % 2 ^ 20 }) s.port.link (asked_link (value % 2 ^ 4) s.port.present s.port.sud s.port.link)
 can_stays s value PxSact = either s.port.st _ s.port (λ p. p.capabilities ≡ s.port.capabilities) refl refl
 can_stays s value PxCi = either s.port.st _ s.port (λ p. p.capabilities ≡ s.port.capabilities) refl refl
 can_stays s value r = refl
@@ -496,8 +496,8 @@ relinked_same p Offline = refl
 
 control_back : (p : HbaPort) → IsLawful p → with_control p p.sctl ≡ p
 control_back p h =
-    let e : p.sctl % 2 ^ 12 ≡ p.sctl = omega (arith, h.sctl) in
-    ap (relinked (record p { sctl = p.sctl % 2 ^ 12 }) p.link) h.link ∙ relinked_same (record p { sctl = p.sctl % 2 ^ 12 }) p.link ∙ ap (λ x. record p { sctl = x }) e
+    let e : p.sctl % 2 ^ 20 ≡ p.sctl = omega (arith, h.sctl) in
+    ap (relinked (record p { sctl = p.sctl % 2 ^ 20 }) p.link) h.link ∙ relinked_same (record p { sctl = p.sctl % 2 ^ 20 }) p.link ∙ ap (λ x. record p { sctl = x }) e
 
 ghc_back : (s : HbaState) → with_ghc s (2 ^ 31 + bit_word s.ghc_ie 1) ≡ s
 ghc_back s =

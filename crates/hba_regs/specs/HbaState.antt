@@ -190,7 +190,7 @@ pub record IsLawful (p : HbaPort) : Type 0 where
   pub sact : IsBelow p.capabilities.ncs p.sact
   pub ci : IsBelow p.capabilities.ncs p.ci
   pub power : IsPowered p.capabilities p.sud p.alpe p.asp
-  pub sctl : p.sctl < 2 ^ 12
+  pub sctl : p.sctl < 2 ^ 20
   -- the link is the one that DET asks for
   pub link : asked_link (p.sctl % 2 ^ 4) p.present p.sud p.link ≡ p.link
   -- a link that is up has a device

@@ -85,9 +85,9 @@ with_command p value = powered_by (commanded_by p value) value
 abbrev pub spins_up : HbaPort → ℕ → Bool
 spins_up p value = not p.sud && (not p.capabilities.sss || has_place (bits value) 1)
 
--- PxSCTL: bits 11:0 are kept, and DET (bits 3:0) moves the link
+-- PxSCTL: bits 19:0 are kept, of which AHCI uses 11:0, and DET (bits 3:0) moves the link
 abbrev pub with_control : HbaPort → ℕ → HbaPort
-with_control p value = relinked (record p { sctl = value % 2 ^ 12 }) p.link (asked_link (value % 2 ^ 4) p.present p.sud p.link)
+with_control p value = relinked (record p { sctl = value % 2 ^ 20 }) p.link (asked_link (value % 2 ^ 4) p.present p.sud p.link)
 
 -- PxSACT and PxCI take commands while ST is 1, in the slots that the command list has: the standard forbids the others (section 5.5.1), which
 -- stay 0 (profile)

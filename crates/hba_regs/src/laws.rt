@@ -87,9 +87,7 @@ pub fn commands_are_dropped_as_told(regs: &HbaRegs, register: Register, value: u
         → has_place regs.now.port.sact i ≡ true → has_place (written regs.now value register).state.port.sact i ≡ true }
     ensures ci { (written regs.now value register).consequence ≡ Nothing → (i : ℕ)
         → has_place regs.now.port.ci i ≡ true → has_place (written regs.now value register).state.port.ci i ≡ true }
-{
-    regs.keeps_its_rules();
-}
+{}
 
 /// While ST is 0, a write to PxSACT or PxCI changes nothing, as that of what was read there.
 pub fn a_stopped_port_takes_no_command(regs: &HbaRegs, value: u32)
@@ -251,9 +249,7 @@ pub fn a_comreset_finds_a_lost_device(regs: &HbaRegs)
     requires spun { regs.now.port.sud ≡ true }
     ensures { (written (written (moved regs.now (lost regs.now.port regs.now.port.link)) 0x301 Register.PxSctl).state 0x300 Register.PxSctl).state.port
         ≡ (written (written regs.now 0x301 Register.PxSctl).state 0x300 Register.PxSctl).state.port }
-{
-    regs.keeps_its_rules();
-}
+{}
 
 /// A D2H Register FIS that no command asks for sets no bit of PxIS while ST is 0, and none but DHRS while ST is 1.
 pub fn a_stopped_port_reports_no_register_fis(regs: &HbaRegs)

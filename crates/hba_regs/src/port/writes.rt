@@ -207,7 +207,7 @@ impl Port {
         ensures state { self.new ≡ with_control self.old value }
         ensures consequence { result ≡ port_consequence self.old value Register.PxSctl }
     {
-        let control = value & 0xfff;
+        let control = value & 0xf_ffff;
         let next = self.link.asked(value & 0xf, self.present, self.spun_up);
         match (self.link, next) {
             (Link::Up, Link::Up)
@@ -256,7 +256,7 @@ impl Port {
     /// The device is there again, and is busy until its signature is taken.
     pub(super) fn come_up(&mut self, control: u32, spun_up: bool)
         requires present { self.old.present ≡ true }
-        requires control { control < 2 ^ 12 }
+        requires control { control < 2 ^ 20 }
         requires link { asked_link (control % 2 ^ 4) self.old.present spun_up Up ≡ Up }
         requires power { (not self.old.capabilities.sss || spun_up) ≡ spun_up }
         ensures { self.new ≡ came_up (record self.old { sctl = control; sud = spun_up }) }
@@ -273,7 +273,7 @@ impl Port {
 
     /// The link is gone, and the commands with it (section 10.4.2).
     fn go_down(&mut self, control: u32, link: Link)
-        requires control { control < 2 ^ 12 }
+        requires control { control < 2 ^ 20 }
         requires link { asked_link (control % 2 ^ 4) self.old.present self.old.sud link ≡ link }
         requires down { is_up link ≡ false }
         ensures { self.new ≡ went_down (record self.old { sctl = control }) link }
