@@ -435,7 +435,7 @@ typedef struct ahci_hba_state {
 typedef enum ahci_rule {
     AHCI_RULE_START_WITHOUT_RECEIVING = 0, /* ST is set while FRE is 0 and stays 0 (section 10.3.1) */
     AHCI_RULE_START_WITH_RECEIVING = 1, /* ST and FRE are set by one write (section 10.3.1) */
-    AHCI_RULE_START_WHILE_BUSY = 2, /* ST is set while BSY or DRQ is 1, without CLO (section 10.3.1) */
+    AHCI_RULE_START_WHILE_BUSY = 2, /* ST is set while BSY or DRQ is 1 (section 10.3.1) */
     AHCI_RULE_START_WITHOUT_DEVICE = 3, /* ST is set while PxSSTS.DET is not 3 (section 10.3.1) */
     AHCI_RULE_RECEIVING_CLEARED_WHILE_STARTED = 4, /* FRE is cleared while ST is 1 (section 10.3.2) */
     AHCI_RULE_LIST_MOVED_WHILE_STARTED = 5, /* PxCLB or PxCLBU is changed while ST is 1 (section 10.3.1) */
@@ -449,8 +449,8 @@ typedef enum ahci_rule {
     AHCI_RULE_MIXED_COMMANDS = 13, /* queued commands and others begin to be outstanding together (section 5.5.1) */
     AHCI_RULE_INTERRUPT_NOT_CLEARED = 14, /* IS is cleared while an enabled bit of PxIS is 1: it comes again (section 10.7.2) */
     AHCI_RULE_RESERVED_BITS = 15, /* reserved bits of a register are written 1 (section 3) */
-    AHCI_RULE_FIS_LENGTH = 16, /* CFL is not the five dwords of a Register FIS - Host to Device (section 4.2.2) */
-    AHCI_RULE_NO_COMMAND_FIS = 17, /* CFIS is no Register FIS - Host to Device (section 4.2.3) */
+    AHCI_RULE_FIS_LENGTH = 16, /* CFL is not the five dwords of a Register FIS - Host to Device, or the three of BIST Activate (section 4.2.2) */
+    AHCI_RULE_NO_COMMAND_FIS = 17, /* CFIS is no Register FIS - Host to Device, and no BIST Activate FIS with B (section 4.2.3) */
     AHCI_RULE_ATAPI_FLAG = 18, /* A is 1 for a disk (section 4.2.2) */
     AHCI_RULE_WRITE_FLAG = 19, /* W is not the direction of the data (section 4.2.2) */
     AHCI_RULE_ACTIVE_WITHOUT_QUEUE = 20, /* PxSACT has the slot of a command that is not queued (section 3.3.13) */
@@ -471,7 +471,7 @@ typedef enum ahci_rule {
     AHCI_RULE_ENABLE_OVER_STATUS = 35, /* PxIE or GHC.IE enables what PxIS or IS already has (section 10.1.2) */
     AHCI_RULE_SPEED_ABOVE_INTERFACE = 36, /* PxSCTL.SPD is above CAP.ISS, or reserved (section 3.3.11) */
     AHCI_RULE_POWER_WITHOUT_CAPABILITY = 37, /* ICC, ALPE or ASP is set without the capability (section 3.3.7) */
-    AHCI_RULE_QUEUE_WITHOUT_CAPABILITY = 38, /* a bit of PxSACT is set while CAP.SNCQ is 0 (section 3.3.13) */
+    AHCI_RULE_QUEUE_WITHOUT_CAPABILITY = 38, /* a bit of PxSACT is set while CAP.SNCQ is 0 (section 3.1.1) */
     AHCI_RULE_PREFETCH_WITH_QUEUE = 39, /* P is 1 for a queued command (section 4.2.2) */
     AHCI_RULE_PORT_OF_MULTIPLIER = 40, /* PMP of a header or PM Port of a FIS is not 0, without port multipliers (section 4.2.2) */
     AHCI_RULE_BIST_FLAG = 41, /* B is 1 for a FIS that is no BIST Activate FIS (section 4.2.2) */

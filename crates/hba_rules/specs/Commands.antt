@@ -46,9 +46,19 @@ reserved_dwords header = bit_or (bit_or (bit_or (number 16 4 header) (number 20 
 abbrev pub names_multiplier : (header fis : List ℕ) → Bool
 names_multiplier header fis = not (nat_eq (byte 1 header / 16) 0) || not (nat_eq (byte 1 fis % 16) 0)
 
--- a FIS with B is a BIST Activate FIS, type 58h
+-- a FIS with B is a BIST Activate FIS, type 58h, whose length is 3 dwords (Serial ATA, "BIST Activate FIS")
+abbrev pub has_bist_type : (fis : List ℕ) → Bool
+has_bist_type fis = nat_eq (byte 0 fis) 0x58
+
 abbrev pub is_wrong_bist : (header fis : List ℕ) → Bool
-is_wrong_bist header fis = (header_at header).bist && not (nat_eq (byte 0 fis) 0x58)
+is_wrong_bist header fis = (header_at header).bist && not (has_bist_type fis)
+
+abbrev pub is_right_bist : (header fis : List ℕ) → Bool
+is_right_bist header fis = (header_at header).bist && has_bist_type fis
+
+-- CFL: the dwords of the FIS
+abbrev pub has_length : (header fis : List ℕ) → Bool
+has_length header fis = nat_eq (header_at header).fis_dwords (if is_right_bist header fis then 3 else 5)
 
 -- bits 6:4 of byte 1, and bytes 16 to 19, of a Register FIS - Host to Device
 abbrev pub has_reserved_fis : List ℕ → Bool
@@ -74,12 +84,12 @@ flag_rule rule.ReservedFis slot active header fis t = has_reserved_fis fis
 flag_rule r slot active header fis t = task_rule r slot active (header_at header).write t
 
 abbrev pub fis_rule : Rule → (slot : ℕ) → (active : Bool) → (header fis : List ℕ) → Option H2dFields → Bool
-fis_rule rule.NoCommandFis slot active header fis None = true
+fis_rule rule.NoCommandFis slot active header fis None = not (is_right_bist header fis)
 fis_rule other slot active header fis None = false
 fis_rule r slot active header fis (Some f) = flag_rule r slot active header fis (task_of f)
 
 abbrev pub command_breaks : Rule → (slot : ℕ) → (active : Bool) → (header fis : List ℕ) → Bool
-command_breaks rule.FisLength slot active header fis = not (nat_eq (header_at header).fis_dwords 5)
+command_breaks rule.FisLength slot active header fis = not (has_length header fis)
 command_breaks rule.AtapiFlag slot active header fis = (header_at header).atapi
 command_breaks rule.ReservedHeader slot active header fis = has_reserved_bit header || not (nat_eq (reserved_dwords header) 0)
 command_breaks rule.TableUnaligned slot active header fis = not (nat_eq (byte 8 header % 128) 0)

@@ -117,7 +117,7 @@ all (c ∷ rest) s word = c s word && all rest s word
 abbrev pub command_row : Rule → List Condition
 command_row rule.StartWithoutReceiving = writes 0x01 ∷ lacks PxCmd 0x01 ∷ leaves 0x10 ∷ []
 command_row rule.StartWithReceiving = writes 0x01 ∷ lacks PxCmd 0x01 ∷ writes 0x10 ∷ lacks PxCmd 0x10 ∷ []
-command_row rule.StartWhileBusy = writes 0x01 ∷ lacks PxCmd 0x01 ∷ has PxTfd 0x88 ∷ leaves 0x08 ∷ []
+command_row rule.StartWhileBusy = writes 0x01 ∷ lacks PxCmd 0x01 ∷ has PxTfd 0x88 ∷ []
 command_row rule.StartWithoutDevice = writes 0x01 ∷ lacks PxCmd 0x01 ∷ is_not PxSsts 0xf 3 ∷ []
 command_row rule.StartWithErrors = writes 0x01 ∷ lacks PxCmd 0x01 ∷ has PxIs 0x78000000 ∷ []
 command_row rule.StartWithSerr = writes 0x01 ∷ lacks PxCmd 0x01 ∷ has PxSerr 0xffffffff ∷ []
@@ -186,8 +186,8 @@ abbrev pub interrupt_row : Rule → List Condition
 interrupt_row rule.InterruptNotCleared = writes 0x01 ∷ interrupts ∷ []
 interrupt_row other = never ∷ []
 
--- the bits that the table of each register marks as reserved. Those of IS are the ports that are not there. PxSERR has 31:27 of DIAG, and 15:12
--- and 7:2 of ERR; section 10.1.2 has software write 1 to each implemented bit
+-- the bits that the table of each register marks as reserved. Those of IS are the ports that are not there. Those of PxSERR may be written 1: section 10.4.2
+-- has software write all 1s to it after a port reset
 abbrev pub reserved_bits : Register → ℕ
 reserved_bits Cap = 0x00080000
 reserved_bits Ghc = 0x7ffffff8
@@ -200,7 +200,6 @@ reserved_bits PxCmd = 0x000000e0
 reserved_bits PxTfd = 0xffff0000
 reserved_bits PxSsts = 0xfffff000
 reserved_bits PxSctl = 0xfff00000
-reserved_bits PxSerr = 0xf800f0fc
 reserved_bits register = 0
 
 -- the other rules, by the register

@@ -2,7 +2,7 @@
 
 ghost use Rattle.std.specs.Prelude.{◌≡◌, ◌≤◌, ◌+◌};
 ghost use Rattle.sata_fis.specs.Places.{number};
-ghost use Rattle.hba_rules.specs.Commands.{command_breaks, fis_rule, flag_rule, has_direction, has_other_tag, has_reserved_bit, has_reserved_fis, has_wrong_flags, is_queued, is_wrong_bist, names_multiplier, prefetches, reserved_dwords, resets, task_rule};
+ghost use Rattle.hba_rules.specs.Commands.{command_breaks, fis_rule, flag_rule, has_direction, has_length, has_other_tag, has_reserved_bit, has_reserved_fis, has_wrong_flags, is_queued, is_right_bist, is_wrong_bist, names_multiplier, prefetches, reserved_dwords, resets, task_rule};
 
 use crate::rule::Rule;
 use byteorder::{ByteOrder, LittleEndian};
@@ -15,7 +15,7 @@ pub fn command_breaks(rule: Rule, slot: u8, active: bool, header: &[u8; 32], fis
     ensures { result ≡ command_breaks rule slot active header.now fis.now }
 {
     match rule {
-        Rule::FisLength => CommandHeader::at(header).fis_dwords != 5,
+        Rule::FisLength => !has_length(header, fis),
         Rule::AtapiFlag => CommandHeader::at(header).atapi,
         Rule::ReservedHeader => has_reserved_bit(header) || reserved_dwords(header) != 0,
         Rule::TableUnaligned => header[8] % 128 != 0,
@@ -53,6 +53,21 @@ fn is_wrong_bist(header: &[u8; 32], fis: &[u8; 20]) -> bool
     CommandHeader::at(header).bist && fis[0] != 0x58
 }
 
+/// Whether B of a header is 1 for a BIST Activate FIS.
+fn is_right_bist(header: &[u8; 32], fis: &[u8; 20]) -> bool
+    ensures { result ≡ is_right_bist header.now fis.now }
+{
+    CommandHeader::at(header).bist && fis[0] == 0x58
+}
+
+/// Whether CFL of a header is the length of its FIS.
+fn has_length(header: &[u8; 32], fis: &[u8; 20]) -> bool
+    ensures { result ≡ has_length header.now fis.now }
+{
+    let dwords = if is_right_bist(header, fis) { 3 } else { 5 };
+    CommandHeader::at(header).fis_dwords == dwords
+}
+
 /// Whether reserved bits of a Register FIS - Host to Device are not 0.
 fn has_reserved_fis(fis: &[u8; 20]) -> bool
     ensures { result ≡ has_reserved_fis fis.now }
@@ -88,7 +103,7 @@ fn fis_rule(
 {
     match fis {
         Some(fis) => flag_rule(rule, slot, active, header, bytes, &task_of(fis)),
-        None => matches!(rule, Rule::NoCommandFis),
+        None => matches!(rule, Rule::NoCommandFis) && !is_right_bist(header, bytes),
     }
 }
 

@@ -12,7 +12,7 @@ pub enum Rule {
     StartWithoutReceiving,
     /// ST and FRE are set by one write (section 10.3.1).
     StartWithReceiving,
-    /// ST is set while BSY or DRQ is 1, without CLO (section 10.3.1).
+    /// ST is set while BSY or DRQ is 1 (section 10.3.1).
     StartWhileBusy,
     /// ST is set while PxSSTS.DET is not 3 (section 10.3.1).
     StartWithoutDevice,
@@ -40,9 +40,9 @@ pub enum Rule {
     InterruptNotCleared,
     /// Reserved bits of a register are written 1 (section 3).
     ReservedBits,
-    /// CFL is not the five dwords of a Register FIS - Host to Device (section 4.2.2).
+    /// CFL is not the five dwords of a Register FIS - Host to Device, or the three of BIST Activate (section 4.2.2).
     FisLength,
-    /// CFIS is no Register FIS - Host to Device (section 4.2.3).
+    /// CFIS is no Register FIS - Host to Device, and no BIST Activate FIS with B (section 4.2.3).
     NoCommandFis,
     /// A is 1 for a disk (section 4.2.2).
     AtapiFlag,
@@ -84,7 +84,7 @@ pub enum Rule {
     SpeedAboveInterface,
     /// ICC, ALPE or ASP is set without the capability (section 3.3.7).
     PowerWithoutCapability,
-    /// A bit of PxSACT is set while CAP.SNCQ is 0 (section 3.3.13).
+    /// A bit of PxSACT is set while CAP.SNCQ is 0 (section 3.1.1).
     QueueWithoutCapability,
     /// P is 1 for a queued command (section 4.2.2).
     PrefetchWithQueue,
@@ -232,8 +232,7 @@ impl Rule {
             Rule::ActiveWhileStopped
             | Rule::ActiveWithoutQueue
             | Rule::TagNotSlot
-            | Rule::ActiveAfterIssue
-            | Rule::QueueWithoutCapability => "3.3.13",
+            | Rule::ActiveAfterIssue => "3.3.13",
             Rule::CommandWhileStopped => "3.3.14",
             Rule::CommandWhileHalted | Rule::StartWithErrors => "6.2.2",
             Rule::MixedCommands | Rule::QueueWithoutActive | Rule::SlotUsedAgain => "5.5.1",
@@ -258,7 +257,7 @@ impl Rule {
             Rule::AreaUnaligned => "3.3.3",
             Rule::StartWithSerr | Rule::EnableOverStatus => "10.1.2",
             Rule::ResetFlags => "10.4.1",
-            Rule::SlotAboveList => "3.1.1",
+            Rule::QueueWithoutCapability | Rule::SlotAboveList => "3.1.1",
         }
     }
 

@@ -76,9 +76,7 @@ fn command_rule(rule: Rule, registers: &HbaRegs, word: u32) -> bool
         Rule::StartWithReceiving => {
             starts(registers, word) && any_of(word, 0x10) && !has(registers, Register::PxCmd, 0x10)
         }
-        Rule::StartWhileBusy => {
-            starts(registers, word) && has(registers, Register::PxTfd, 0x88) && !any_of(word, 0x08)
-        }
+        Rule::StartWhileBusy => starts(registers, word) && has(registers, Register::PxTfd, 0x88),
         Rule::StartWithoutDevice => {
             starts(registers, word) && registers.word_at(Register::PxSsts) & 0xf != 3
         }
@@ -333,7 +331,6 @@ fn reserved_bits(register: Register) -> u32
         Register::PxTfd => 0xffff_0000,
         Register::PxSsts => 0xffff_f000,
         Register::PxSctl => 0xfff0_0000,
-        Register::PxSerr => 0xf800_f0fc,
         _ => 0,
     }
 }
