@@ -262,7 +262,7 @@ static struct fis answer_to(const struct command *it)
     case 0xB0:
         if (!is_smart(it))
             return bad(it, 4, 0);
-        return it->fis[3] == 0xDA ? d2h(0x40, 0x40, 0, 0xC24F00) : fis; /* no threshold is exceeded */
+        return it->fis[3] == 0xDA || (it->fis[3] == 0xD4 && (it->fis[4] == 0x81 || it->fis[4] == 0x82)) ? d2h(0x40, 0x40, 0, 0xC24F00) : fis; /* no threshold is exceeded, or a captive test has passed */
     case 0xE5: fis.bytes[12] = power == STANDBY ? 0 : 0xFF; return fis;
     case 0x90: return with_signature(d2h(0x40, 0x40, 1, 0));
     case 0xA1: return with_signature(bad(it, 4, 0));

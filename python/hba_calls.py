@@ -63,9 +63,12 @@ with Hba(bytes(SECTORS * 512), depth=32) as hba:
     hba.write(PXCLB, LIST)
     hba.write(PXFB, RECEIVED)
     assert hba.write_breaks(Rule.START_WITHOUT_RECEIVING, PXCMD, 1) and not hba.write_breaks(Rule.START_WITHOUT_RECEIVING, PXCMD, 0x10)
-    for at in (0x08, 0x100, 0x108, 0x110, 0x114, 0x130):  # IS, PxCLB, PxFB, PxIS, PxIE and PxSERR have reserved bits
+    for at in (0x08, 0x100, 0x108, 0x110, 0x114):  # IS, PxCLB, PxFB, PxIS and PxIE have reserved bits
         assert hba.write_breaks(Rule.RESERVED_BITS, at, 0xFFFFFFFF)
-    assert not hba.write_breaks(Rule.RESERVED_BITS, 0x130, 0x07FF0F03)
+    assert not hba.write_breaks(Rule.RESERVED_BITS, 0x130, 0xFFFFFFFF)  # "software should write all 1s to the PxSERR register" (section 10.4.2)
+    hba.write(PXSCTL, 0xFFFFF300)  # PMP and SPM are read and write, though AHCI doesn't use them (section 3.3.11)
+    assert hba.read(PXSCTL) == 0x000FF300
+    hba.write(PXSCTL, 0)
     refused(ahci.Status.NO_SUCH_REGISTER, lambda: hba.write_breaks(Rule.RESERVED_BITS, 0x13C, 1))
     hba.write(PXCMD, 0x10)
     assert hba.look().sign and hba.look().depth == 32
@@ -190,6 +193,10 @@ assert command_breaks(Rule.QUEUE_WITHOUT_ACTIVE, 2, False, header, fis)
 assert entry_breaks(Rule.ODD_ADDRESS, struct.pack("<QII", DATA + 1, 0, 511)) and not entry_breaks(Rule.EVEN_COUNT, struct.pack("<QII", DATA, 0, 511))
 assert entry_breaks(Rule.RESERVED_ENTRY, struct.pack("<QII", DATA, 1, 511)) and not entry_breaks(Rule.RESERVED_ENTRY, struct.pack("<QII", DATA, 0, 1 << 31 | 511))
 assert command_breaks(Rule.RESET_FLAGS, 0, False, struct.pack("<HHIQ16x", 1 << 8 | 5, 0, 0, TABLES), bytes([0x27, 0]).ljust(15, b"\0") + bytes([4]) + bytes(4))
+bist, longer = (struct.pack("<HHIQ16x", 1 << 9 | dwords, 0, 0, TABLES) for dwords in (3, 5))  # a BIST Activate FIS has three dwords (Serial ATA)
+for rule in (Rule.FIS_LENGTH, Rule.NO_COMMAND_FIS, Rule.BIST_FLAG):
+    assert not command_breaks(rule, 0, False, bist, b"\x58".ljust(20, b"\0"))
+assert command_breaks(Rule.FIS_LENGTH, 0, False, longer, b"\x58".ljust(20, b"\0")) and command_breaks(Rule.NO_COMMAND_FIS, 0, False, header, b"\x58".ljust(20, b"\0"))
 assert length_breaks(Rule.LIST_TOO_SHORT, fis, 0) and length_breaks(Rule.LIST_TOO_SHORT, fis, 511) and not length_breaks(Rule.LIST_TOO_LONG, fis, 512)
 refused(ahci.Status.BAD_SIZE, lambda: Hba(bytes(100), 32))
 refused(ahci.Status.BAD_KIND, lambda: Hba(bytes(512), 32, ahci.Capabilities(ncs=33)))
@@ -241,6 +248,33 @@ with Hba(b"\x11" * 512 * 8, depth=32) as hba:  # a TRIM makes sectors zeros, tho
         issue(hba, 0, False)
         hba.run(memory)
         assert (memory[DATA + 139], memory[DATA + 138]) == (high, low)
+with Hba.over(b"", 1 << 28, 32) as hba:  # a disk that commands of 28 bits don't reach whole: below FFF_FFFFh (ACS-3, "IDENTIFY DEVICE", words 60 and 61)
+    hba.write(PXCLB, LIST)
+    hba.write(PXFB, RECEIVED)
+    hba.write(PXCMD, 0x10)
+    hba.run(memory)
+    for code, device, count, ends in ((0xC8, 0x4F, 1, 0x41), (0xC8, 0x4F, 2, 0x41), (0x40, 0x4F, 1, 0x41), (0x25, 0x40, 1, 0x40), (0xCA, 0x4F, 1, 0x41)):
+        hba.write(PXCMD, 0x11)
+        lay(memory, 0, bytes([0x27, 0x80, code, 0, 0xFF, 0xFF, 0xFF, device, 0x0F if code == 0x25 else 0, 0, 0, 0, count]), 512 * count * (code != 0x40), code == 0xCA)
+        issue(hba, 0, False)
+        hba.run(memory)
+        assert hba.read(PXTFD) & 0xFF == ends
+        if ends == 0x41:  # IDNF at LBA FFF_FFFFh
+            assert memory[RECEIVED + 0x43:RECEIVED + 0x48] == b"\x10\xFF\xFF\xFF\x0F"
+        hba.write(PXCMD, 0x10)
+    hba.write(PXCMD, 0x11)
+    lay(memory, 0, bytes([0x27, 0x80, 0xC8, 0, 0xFE, 0xFF, 0xFF, 0x4F, 0, 0, 0, 0, 1]), 512, False)
+    issue(hba, 0, False)
+    hba.run(memory)
+    assert hba.read(PXTFD) == 0x40
+    lay(memory, 0, bytes([0x27, 0x80, 0xB0, 0xD4, 0x81, 0x4F, 0xC2, 0x40]), 0, False)  # a captive self-test has found no error: C24Fh in LBA 23:8
+    issue(hba, 0, False)
+    hba.run(memory)
+    assert hba.read(PXTFD) == 0x40 and memory[RECEIVED + 0x44:RECEIVED + 0x47] == b"\x00\x4F\xC2"
+    lay(memory, 0, bytes([0x27, 0x80, 0xEC]), 512, False)
+    issue(hba, 0, False)
+    hba.run(memory)
+    assert memory[DATA + 120:DATA + 124] == b"\xFF\xFF\xFF\x0F" and memory[DATA + 152:DATA + 154] == b"\x0E\x85"  # words 60, 61 and 76
 with Hba(bytes(512), depth=32) as hba:  # PxFB is no memory: HBFS, and no second signature before the driver's next write
     hba.write(PXFB, 0x100000)
     hba.write(PXCMD, 0x10)

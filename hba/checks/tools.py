@@ -102,7 +102,7 @@ def features(cache: str = "*", ahead: str = "*", apm: str = "") -> List[str]:
            ("*" if apm else "", "Advanced Power Management feature set"), ("*", "48-bit Address feature set"), ("*", "Mandatory FLUSH_CACHE"), ("*", "FLUSH_CACHE_EXT"), ("*", "SMART error logging"),
            ("*", "SMART self-test"), ("*", "General Purpose Logging feature set"), ("*", "WRITE_UNCORRECTABLE_EXT command"),
            ("*", "{READ,WRITE}_DMA_EXT_GPL commands"), ("*", "Gen1 signaling speed (1.5Gb/s)"), ("*", "Gen2 signaling speed (3.0Gb/s)"),
-           ("*", "Native Command Queueing (NCQ)"), ("*", "Phy event counters"), ("*", "64-bit World wide name"), ("*", "WRITE_{DMA|MULTIPLE}_FUA_EXT"),
+           ("*", "Gen3 signaling speed (6.0Gb/s)"), ("*", "Native Command Queueing (NCQ)"), ("*", "Phy event counters"), ("*", "READ_LOG_DMA_EXT equivalent to READ_LOG_EXT"), ("*", "64-bit World wide name"), ("*", "WRITE_{DMA|MULTIPLE}_FUA_EXT"),
            ("*", "WRITE BUFFER DMA command"), ("*", "READ BUFFER DMA command"), ("*", "Data Set Management TRIM supported (limit 8 blocks)"),
            ("*", "Deterministic read ZEROs after TRIM")]
     return [rf"Model Number:       {MODEL}", rf"Serial Number:      {SERIAL}", rf"Firmware Revision:  {FIRMWARE}",

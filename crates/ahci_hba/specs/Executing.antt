@@ -1,9 +1,9 @@
 -- What the device does with a command that is not queued (ACS-3, by the commands' titles).
-use Rattle.std.specs.Prelude.{◌≡◌, ℕ, ◌-◌, ◌*◌, Bool, true, false, not, ◌&&◌, ◌||◌, max, min, List, Option, None, Some, if◌then◌else◌}
+use Rattle.std.specs.Prelude.{◌≡◌, ℕ, ◌-◌, ◌*◌, Bool, true, false, not, ◌&&◌, ◌||◌, max, min, nat_le, List, Option, None, Some, if◌then◌else◌}
 use Rattle.std.specs.List.{list_any}
 use Rattle.sata_fis.specs.Fields.{D2hFields}
 use Rattle.hba_command.specs.Action.{action_of}
-use Rattle.hba_command.specs.Addressing.{addressed}
+use Rattle.hba_command.specs.Addressing.{addressed, reached}
 use Rattle.hba_command.specs.Device.{after_error_log, after_page, allows, allows_log, allows_page}
 use Rattle.hba_command.specs.DiskPages.{ready_page}
 use Rattle.hba_command.specs.HostLogs.{host_pages}
@@ -20,6 +20,7 @@ use Rattle.hba_command.specs.declared.action.Action.TheVariants.{Queue, Sectors,
 use Rattle.hba_command.specs.declared.addressing.Addressing.{Addressing}
 use Rattle.hba_command.specs.declared.addressing.Addressing.TheVariants.{Bits28, Bits48}
 use Rattle.hba_command.specs.declared.change.Change.{Change}
+use Rattle.hba_command.specs.declared.change.Change.TheVariants as change
 use Rattle.hba_command.specs.declared.device.Device.{Device}
 use Rattle.hba_command.specs.declared.disk_page.DiskPage.{DiskPage}
 use Rattle.hba_command.specs.declared.entry.PrdEntry.{PrdEntry}
@@ -47,9 +48,9 @@ use Rattle.ahci_hba.specs.Zeroing.{StoreMayLack, Stores}
 abbrev pub signed : ℕ → ℕ → D2hFields
 signed status error = d2h_fis status error 1 1
 
--- the first sector that is not on the disk, of some that aren't all
+-- the first sector that is not on the disk, or that the command does not reach, of some of which that is true
 abbrev pub first_missing : PortView → SpanFields → ℕ
-first_missing port span = max span.lba (sectors_in port)
+first_missing port span = max span.lba (reached span.addressing (sectors_in port))
 
 -- some sectors are on the disk, or IDNF names the first one that is not
 abbrev pub found_all : PortView → SpanFields → D2hFields
@@ -61,7 +62,7 @@ verified_to port span None = found_all port span
 verified_to port span (Some lba) = addressed span.addressing (d2h_fis 0x41 0x40 0 0) lba
 
 abbrev pub verified : HbaView → SpanFields → D2hFields
-verified h span = verified_to h.port span (marked_on h.port h.marks span.lba span.sectors)
+verified h span = verified_to h.port span (marked_on h.port h.marks span.addressing span.lba span.sectors)
 
 -- WRITE UNCORRECTABLE EXT marks sectors that are all on the disk; without room for their marks it is aborted (profile)
 abbrev pub can_mark : HbaView → SpanFields → Bool
@@ -79,10 +80,16 @@ abbrev pub native_max : Addressing → PortView → ℕ
 native_max Bits28 port = min 0x0FFFFFFF (sectors_in port - 1)
 native_max Bits48 port = sectors_in port - 1
 
+-- LBA 23:8 of the answer to a change: C24Fh says that a captive self-test has found no error (ACS-3, "SMART EXECUTE OFF-LINE IMMEDIATE", normal outputs), whose
+-- subcommand has bit 7
+abbrev pub changed_lba : Change → ℕ
+changed_lba (change.Test subcommand) = if nat_le 0x80 subcommand then 0xC24F00 else 0
+changed_lba other = 0
+
 -- a change is made, or the command is aborted if it isn't possible; SMART RETURN STATUS says by LBA 23:8 C24Fh that no attribute has exceeded its
 -- threshold, and is aborted while SMART operations are disabled
 abbrev pub changed_fis : Device → Change → D2hFields
-changed_fis d c = if allows d c then done else aborted
+changed_fis d c = if allows d c then d2h_fis 0x40 0 (changed_lba c) 0 else aborted
 
 abbrev pub smart_fis : Device → D2hFields
 smart_fis d = if d.smart then d2h_fis 0x40 0 0xC24F00 0 else aborted

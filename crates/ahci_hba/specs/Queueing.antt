@@ -4,6 +4,7 @@ use Rattle.std.specs.List.{list_any, range_with_len}
 use Rattle.sata_fis.specs.Fields.{QueuedFields}
 use Rattle.word_bits.specs.Places.{has_place}
 use Rattle.hba_command.specs.Action.{action_of}
+use Rattle.hba_command.specs.Addressing.{reached}
 use Rattle.hba_command.specs.MultipleMode.{lacks_blocks}
 use Rattle.hba_command.specs.Power.{is_awake}
 use Rattle.hba_command.specs.declared.action.Action.{Action}
@@ -86,9 +87,9 @@ is_failed h = halted h.port.past || is_some h.device.collision
 abbrev pub comes_under_queued : HbaView → ℕ → Bool
 comes_under_queued h slot = has_alone (command_at h slot) && (list_any has_queued h.slots && not (is_failed h))
 
--- the sectors are on the disk
+-- the sectors are on the disk, and the command reaches them
 abbrev pub is_on : PortView → SpanFields → Bool
-is_on port span = nat_le (span.lba + span.sectors) (sectors_in port)
+is_on port span = nat_le (span.lba + span.sectors) (reached span.addressing (sectors_in port))
 
 -- the device has a tag: those below the depth that it reports (ACS-3, IDENTIFY DEVICE, word 75)
 abbrev pub has_tag : HbaView → QueuedFields → Bool

@@ -1,6 +1,7 @@
 -- How many bits the LBA of a command has (ACS-3, "28-bit and 48-bit commands"), and where a Register FIS - Device to Host names an LBA (Serial
 -- ATA, "Register FIS - Device to Host"): for a command of 28 bits LBA 27:24 are device 3:0, and the bytes of LBA 47:24 are 0.
 use Rattle.std.specs.Prelude.{ℕ, ◌/◌, ◌%◌, ◌^◌}
+use Rattle.ncq_core.specs.Identify.{within_28_bits}
 use Rattle.sata_fis.specs.Fields.{D2hFields}
 use Rattle.hba_command.specs.DiskPage.{page_addressing}
 use Rattle.hba_command.specs.Store.{store_addressing}
@@ -13,6 +14,11 @@ use Rattle.hba_command.specs.declared.log.Log.TheVariants as log
 use Rattle.hba_command.specs.declared.page.Page.TheVariants as page
 use Rattle.hba_command.specs.declared.reply.Reply.{Reply}
 use Rattle.hba_command.specs.declared.reply.Reply.TheVariants as reply
+
+-- how many sectors of a disk with so many the commands reach: those of 28 bits no more than words 60 and 61 of IDENTIFY DEVICE say (ACS-3)
+abbrev pub reached : Addressing → (sectors : ℕ) → ℕ
+reached Bits28 sectors = within_28_bits sectors
+reached Bits48 sectors = sectors
 
 abbrev pub addressed : Addressing → D2hFields → ℕ → D2hFields
 addressed Bits28 fis lba = record fis { lba = lba % 2 ^ 24; device = lba / 2 ^ 24 % 16 }

@@ -45,10 +45,10 @@ with_enabled d page =
 abbrev pub further_supported : Device → ℕ
 further_supported d = 0x0C00 + (if d.trim_zeros then 0x4020 else 0)
 
--- a page with further commands and logs: beside word 69 the SATA Phy Event Counters log (word 76, bit 10) and NCQ, Gen2 and Gen1, DATA SET MANAGEMENT
--- with at most eight blocks (word 105) and TRIM (word 169, bit 0)
+-- a page with further commands and logs: beside word 69 in word 76 that READ LOG DMA EXT does what READ LOG EXT does (15), the SATA Phy Event Counters log
+-- (10), NCQ (8), and Gen3, Gen2 and Gen1 (3:1), each of which the link can have; DATA SET MANAGEMENT with at most eight blocks (word 105) and TRIM (word 169, bit 0)
 abbrev pub with_commands : Device → List ℕ → List ℕ
-with_commands d page = with_word 169 0x0001 (with_word 105 0x0008 (with_word 76 0x0506 (with_word 69 (further_supported d) page)))
+with_commands d page = with_word 169 0x0001 (with_word 105 0x0008 (with_word 76 0x850E (with_word 69 (further_supported d) page)))
 
 -- a page with capabilities: in word 47 the most sectors that a block of READ and WRITE MULTIPLE may have, and 80h in its high byte; word 49, DMA (bit 8), LBA
 -- (9), and IORDY (11), which may be disabled (10) and goes with PIO modes 3 and 4; bit 14 is 1 in words 48 and 50; in word 59 the blocks that are set

@@ -1,5 +1,5 @@
-ghost use Rattle.std.specs.Prelude.{◌≡◌, ◌<◌, ◌^◌};
-ghost use Rattle.hba_command.specs.Addressing.{addressed, addressing_of, log_addressing, reply_addressing};
+ghost use Rattle.std.specs.Prelude.{◌≡◌, ◌<◌, ◌≤◌, ◌^◌};
+ghost use Rattle.hba_command.specs.Addressing.{addressed, addressing_of, log_addressing, reached, reply_addressing};
 
 use crate::action::Action;
 use crate::disk_page::page_addressing;
@@ -16,6 +16,17 @@ pub enum Addressing {
     Bits28,
     /// LBA 47:0 are the six bytes of the FIS.
     Bits48,
+}
+
+/// How many sectors of a disk with so many the commands reach: those of 28 bits no more than IDENTIFY DEVICE says (ACS-3, "IDENTIFY DEVICE", words 60 and 61).
+pub fn reached(addressing: Addressing, sectors: u64) -> u64
+    ensures value { result ≡ reached addressing sectors }
+    ensures most { result ≤ sectors }
+{
+    match addressing {
+        Addressing::Bits28 => sectors.min(0x0FFF_FFFF),
+        Addressing::Bits48 => sectors,
+    }
 }
 
 /// The FIS with an LBA, as the answer to a command of these bits names it.

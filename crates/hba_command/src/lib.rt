@@ -39,7 +39,7 @@ mod wide_name;
 mod words;
 
 pub use action::{Action, action_of, is_write, moved_by};
-pub use addressing::{Addressing, addressed, addressing_of};
+pub use addressing::{Addressing, addressed, addressing_of, reached};
 pub use change::Change;
 pub use device::{
     Device, after_ending, after_error_log, after_page, after_signature, after_srst, after_store,

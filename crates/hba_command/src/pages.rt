@@ -161,7 +161,7 @@ fn put_commands(page: &mut [u8; 512], device: &Device)
     ensures { page.new ≡ with_commands device.now page.old }
 {
     put_word(page, 69, further_supported(device));
-    put_word(page, 76, 0x0506); // NCQ, Gen2, Gen1, and the SATA Phy Event Counters log
+    put_word(page, 76, 0x850E); // READ LOG DMA EXT as READ LOG EXT, the SATA Phy Event Counters log, NCQ, Gen3, Gen2, Gen1
     put_word(page, 105, 0x0008); // DATA SET MANAGEMENT: at most eight blocks
     put_word(page, 169, 0x0001); // and its TRIM
 }

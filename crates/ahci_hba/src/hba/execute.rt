@@ -8,7 +8,7 @@ ghost use Rattle.ahci_port.specs.{Faults.{plain_refusal}, PortView.{sectors_in},
 ghost use Rattle.ahci_hba.specs.Failing.{concluded, moves_some};
 ghost use Rattle.ahci_hba.specs.Keeping.{device_ended, keeping};
 ghost use Rattle.ahci_hba.specs.Delivering.{aborted};
-ghost use Rattle.ahci_hba.specs.Executing.{Flushes, Identifies, IsExecuted, MayLack, MayLackAt, Performs, changed_fis, first_missing, found_all, is_aborted, is_alone_fetched, native_max, paged, reads_error_log, replied, reply_fis, signed, smart_fis, stopped, stops_at, verified};
+ghost use Rattle.ahci_hba.specs.Executing.{Flushes, Identifies, IsExecuted, MayLack, MayLackAt, Performs, changed_fis, changed_lba, first_missing, found_all, is_aborted, is_alone_fetched, native_max, paged, reads_error_log, replied, reply_fis, signed, smart_fis, stopped, stops_at, verified};
 
 use crate::command::Command;
 use crate::fault::HbaFault;
@@ -18,7 +18,7 @@ use crate::hba::fetch::is_alone;
 use ahci_port::PlainFault;
 use hba_command::{
     Action, Addressing, Change, Log, Page, Protocol, Reply, Span, Task, action_of, addressed,
-    allows, controller_page, power_count,
+    allows, controller_page, power_count, reached,
 };
 use hba_regs::Slot;
 use sata_fis::D2h;
@@ -39,13 +39,27 @@ fn signed(status: u8, error: u8) -> D2h
     d2h_fis(status, error, 1, 1)
 }
 
+/// LBA 23:8 of the answer to a change: C24Fh, of a captive self-test, says that it has found no error.
+fn changed_lba(change: &Change) -> u64
+    ensures value { result ≡ changed_lba change.now }
+    ensures fits { result < 2 ^ 48 }
+{
+    match change {
+        Change::Test(subcommand) => if *subcommand >= 0x80 { 0xC2_4F00 } else { 0 },
+        Change::WriteCache(_) | Change::LookAhead(_) | Change::PowerLevel(_) => 0,
+        Change::Reverting(_) | Change::DmaMode(_) | Change::Multiple(_) => 0,
+        Change::Smart(_) | Change::NothingSmart => 0,
+    }
+}
+
 impl<A: Allocator, S: SectorStore> Hba<A, S> {
-    /// The first sector that is not on the disk, of some that aren't all.
+    /// The first sector that is not on the disk, or that the command does not reach, of some of which that is true.
     fn first_missing(&self, span: &Span) -> u64
         ensures value { result ≡ first_missing self.now.port span.now }
         ensures fits { result < 2 ^ 48 }
     {
-        span.lba.max(u64::from(self.port.sectors()))
+        span.lba
+            .max(reached(span.addressing, u64::from(self.port.sectors())))
     }
 
     /// The answer to a command that names sectors and moves nothing: IDNF names the first one that is not on the disk.
@@ -66,7 +80,7 @@ impl<A: Allocator, S: SectorStore> Hba<A, S> {
     fn verified(&self, span: &Span) -> D2h
         ensures { result ≡ verified self.now span.now }
     {
-        match self.marked_on(span.lba, span.sectors) {
+        match self.marked_on(span.addressing, span.lba, span.sectors) {
             None => self.found_all(span),
             Some(lba) => addressed(span.addressing, d2h_fis(0x41, 0x40, 0, 0), lba), // UNC
         }
@@ -90,7 +104,7 @@ impl<A: Allocator, S: SectorStore> Hba<A, S> {
         ensures { result ≡ changed_fis self.now.device change.now }
     {
         if allows(&self.device, change) {
-            done()
+            d2h_fis(0x40, 0, changed_lba(change), 0)
         } else {
             aborted()
         }

@@ -10,7 +10,7 @@ ghost use Rattle.ahci_hba.specs.Stepping.{ServesTo, marked_at, may_serve, stop_f
 use crate::fault::HbaFault;
 use crate::hba::Hba;
 use crate::hba::execute::aborted;
-use hba_command::{Action, Reply, Span, action_of};
+use hba_command::{Action, Addressing, Reply, Span, action_of, reached};
 use hba_regs::Slot;
 use sata_fis::D2h;
 use sector_store::SectorStore;
@@ -20,25 +20,25 @@ use std::alloc::Allocator;
 const UNC: u8 = 0x40;
 
 impl<A: Allocator, S: SectorStore> Hba<A, S> {
-    /// The first marked one of the sectors that the disk has, of so many from an LBA on.
-    pub(super) fn marked_on(&self, lba: u64, sectors: u32) -> Option<u64>
-        ensures value { result ≡ marked_on self.now.port self.now.marks lba sectors }
+    /// The first marked one of the sectors that the disk has and the command reaches, of so many from an LBA on.
+    pub(super) fn marked_on(&self, addressing: Addressing, lba: u64, sectors: u32) -> Option<u64>
+        ensures value { result ≡ marked_on self.now.port self.now.marks addressing lba sectors }
         ensures fits { IfSome result (λ m. m < 2 ^ 48) }
     {
-        let there = u64::from(self.port.sectors()).saturating_sub(lba);
+        let there = reached(addressing, u64::from(self.port.sectors())).saturating_sub(lba);
         let sectors = u64::from(sectors).min(there) as u32;
         self.uncorrectable.first_marked(lba, sectors)
     }
 
     /// The same for a read; a write finds none.
-    fn found_by(&self, write: bool, lba: u64, sectors: u32) -> Option<u64>
-        ensures value { result ≡ found_by write (marked_on self.now.port self.now.marks lba sectors) }
+    fn found_by(&self, write: bool, addressing: Addressing, lba: u64, sectors: u32) -> Option<u64>
+        ensures value { result ≡ found_by write (marked_on self.now.port self.now.marks addressing lba sectors) }
         ensures fits { IfSome result (λ m. m < 2 ^ 48) }
     {
         if write {
             return None;
         }
-        self.marked_on(lba, sectors)
+        self.marked_on(addressing, lba, sectors)
     }
 
     /// The marked sector at which a command fails: of a read the first one.
@@ -47,8 +47,12 @@ impl<A: Allocator, S: SectorStore> Hba<A, S> {
         ensures fits { IfSome result (λ m. m < 2 ^ 48) }
     {
         match action {
-            Action::Queue(queued) => self.found_by(queued.write, queued.lba, queued.sectors),
-            Action::Sectors { write, span, .. } => self.found_by(*write, span.lba, span.sectors),
+            Action::Queue(queued) => {
+                self.found_by(queued.write, Addressing::Bits48, queued.lba, queued.sectors)
+            }
+            Action::Sectors { write, span, .. } => {
+                self.found_by(*write, span.addressing, span.lba, span.sectors)
+            }
             Action::Page(_, _) | Action::Store(_, _) | Action::Flush(_) | Action::Reply(_) => None,
             Action::Control { .. } | Action::Abort => None,
         }

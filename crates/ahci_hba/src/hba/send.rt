@@ -12,7 +12,7 @@ use crate::command::{Command, Listed};
 use crate::fault::HbaFault;
 use crate::hba::Hba;
 use ahci_port::{Bytes, Op, PieceLayout, Port, SubmitFault};
-use hba_command::{Action, PrdEntry, Span, Task, action_of, lacks_blocks};
+use hba_command::{Action, PrdEntry, Span, Task, action_of, lacks_blocks, reached};
 use hba_regs::Slot;
 use ncq_core::SECTOR;
 use sata_fis::Queued;
@@ -98,11 +98,12 @@ fn dma_fault<A: Allocator, S: SectorStore>(
 }
 
 impl<A: Allocator, S: SectorStore> Hba<A, S> {
-    /// Whether sectors are on the disk.
+    /// Whether sectors are on the disk, and their command reaches them.
     pub(super) fn is_on(&self, span: &Span) -> bool
         ensures { result ≡ is_on self.now.port span.now }
     {
-        span.lba + u64::from(span.sectors) <= u64::from(self.port.sectors())
+        span.lba + u64::from(span.sectors)
+            <= reached(span.addressing, u64::from(self.port.sectors()))
     }
 
     /// Whether the device has the tag of a queued command.

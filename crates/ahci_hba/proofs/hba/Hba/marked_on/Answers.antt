@@ -10,6 +10,7 @@ returns-clause-fits g c =
     let most = p.1 in
     let all = c.sectors.type_inv in
     let told = c.from.ensures in
+    let reach = c.reached.ensures.most in
     let there = c.saturating_sub-there.ensures in
     let count = c.min-sectors.ensures in
     omega arith)
