@@ -5,7 +5,7 @@
 const struct driver_rule driver_rules[JUDGE_RULES] = {
     [AHCI_RULE_START_WITHOUT_RECEIVING] = {"StartWithoutReceiving", "10.3.1", VERDICT_BROKEN, "ST is set while FRE is 0 and stays 0"},
     [AHCI_RULE_START_WITH_RECEIVING] = {"StartWithReceiving", "10.3.1", VERDICT_OPEN, "ST and FRE are set by one write"},
-    [AHCI_RULE_START_WHILE_BUSY] = {"StartWhileBusy", "10.3.1", VERDICT_BROKEN, "ST is set while BSY or DRQ is 1, without CLO"},
+    [AHCI_RULE_START_WHILE_BUSY] = {"StartWhileBusy", "10.3.1", VERDICT_BROKEN, "ST is set while BSY or DRQ is 1"},
     [AHCI_RULE_START_WITHOUT_DEVICE] = {"StartWithoutDevice", "10.3.1", VERDICT_BROKEN, "ST is set while PxSSTS.DET is not 3"},
     [AHCI_RULE_RECEIVING_CLEARED_WHILE_STARTED] = {"ReceivingClearedWhileStarted", "10.3.2", VERDICT_BROKEN, "FRE is cleared while ST is 1"},
     [AHCI_RULE_LIST_MOVED_WHILE_STARTED] = {"ListMovedWhileStarted", "10.3.1", VERDICT_BROKEN, "PxCLB or PxCLBU is changed while ST is 1"},
@@ -19,8 +19,8 @@ const struct driver_rule driver_rules[JUDGE_RULES] = {
     [AHCI_RULE_MIXED_COMMANDS] = {"MixedCommands", "5.5.1", VERDICT_BROKEN, "queued commands and others begin to be outstanding together"},
     [AHCI_RULE_INTERRUPT_NOT_CLEARED] = {"InterruptNotCleared", "10.7.2", VERDICT_ODD, "IS is cleared while an enabled bit of PxIS is 1: it comes again"},
     [AHCI_RULE_RESERVED_BITS] = {"ReservedBits", "3", VERDICT_BROKEN, "reserved bits of a register are written 1"},
-    [AHCI_RULE_FIS_LENGTH] = {"FisLength", "4.2.2", VERDICT_BROKEN, "CFL is not the five dwords of a Register FIS - Host to Device"},
-    [AHCI_RULE_NO_COMMAND_FIS] = {"NoCommandFis", "4.2.3", VERDICT_BROKEN, "CFIS is no Register FIS - Host to Device"},
+    [AHCI_RULE_FIS_LENGTH] = {"FisLength", "4.2.2", VERDICT_BROKEN, "CFL is not the five dwords of a Register FIS - Host to Device, or the three of BIST Activate"},
+    [AHCI_RULE_NO_COMMAND_FIS] = {"NoCommandFis", "4.2.3", VERDICT_BROKEN, "CFIS is no Register FIS - Host to Device, and no BIST Activate FIS with B"},
     [AHCI_RULE_ATAPI_FLAG] = {"AtapiFlag", "4.2.2", VERDICT_BROKEN, "A is 1 for a disk"},
     [AHCI_RULE_WRITE_FLAG] = {"WriteFlag", "4.2.2", VERDICT_BROKEN, "W is not the direction of the data"},
     [AHCI_RULE_ACTIVE_WITHOUT_QUEUE] = {"ActiveWithoutQueue", "3.3.13", VERDICT_BROKEN, "PxSACT has the slot of a command that is not queued"},
@@ -41,7 +41,7 @@ const struct driver_rule driver_rules[JUDGE_RULES] = {
     [AHCI_RULE_ENABLE_OVER_STATUS] = {"EnableOverStatus", "10.1.2", VERDICT_BROKEN, "PxIE or GHC.IE enables what PxIS or IS already has"},
     [AHCI_RULE_SPEED_ABOVE_INTERFACE] = {"SpeedAboveInterface", "3.3.11", VERDICT_ODD, "PxSCTL.SPD is above CAP.ISS, or reserved"},
     [AHCI_RULE_POWER_WITHOUT_CAPABILITY] = {"PowerWithoutCapability", "3.3.7", VERDICT_BROKEN, "ICC, ALPE or ASP is set without the capability"},
-    [AHCI_RULE_QUEUE_WITHOUT_CAPABILITY] = {"QueueWithoutCapability", "3.3.13", VERDICT_BROKEN, "a bit of PxSACT is set while CAP.SNCQ is 0"},
+    [AHCI_RULE_QUEUE_WITHOUT_CAPABILITY] = {"QueueWithoutCapability", "3.1.1", VERDICT_BROKEN, "a bit of PxSACT is set while CAP.SNCQ is 0"},
     [AHCI_RULE_PREFETCH_WITH_QUEUE] = {"PrefetchWithQueue", "4.2.2", VERDICT_BROKEN, "P is 1 for a queued command"},
     [AHCI_RULE_PORT_OF_MULTIPLIER] = {"PortOfMultiplier", "4.2.2", VERDICT_BROKEN, "PMP of a header or PM Port of a FIS is not 0, without port multipliers"},
     [AHCI_RULE_BIST_FLAG] = {"BistFlag", "4.2.2", VERDICT_BROKEN, "B is 1 for a FIS that is no BIST Activate FIS"},
@@ -68,6 +68,8 @@ const struct driver_rule driver_rules[JUDGE_RULES] = {
     [JUDGE_TAG_ABOVE_DEPTH] = {"TagAboveDepth", "ACS-3", VERDICT_BROKEN, "a queued command's tag is at or above the queue depth of IDENTIFY DEVICE, word 75"},
     [JUDGE_MEMORY_OVERLAPS] = {"MemoryOverlaps", "4.2", VERDICT_BROKEN, "the list, the received FIS area, a command table and data overlap"},
     [JUDGE_MASTER_OFF] = {"MasterOff", "2.1.2", VERDICT_BROKEN, "the function is no bus master while ST is 1"},
+    [JUDGE_ADDRESS_ABOVE_REACH] = {"AddressAboveReach", "3.1.1", VERDICT_BROKEN, "the upper half of an address is not 0 while CAP.S64A is 0"},
+    [JUDGE_NO_MEMORY] = {"NoMemory", "3.3.5", VERDICT_BROKEN, "an address that the controller has to read or to write is no memory"},
 };
 
 const char *verdict_text(enum verdict verdict) {

@@ -24,6 +24,8 @@ enum own_rule {
     JUDGE_TAG_ABOVE_DEPTH,
     JUDGE_MEMORY_OVERLAPS,
     JUDGE_MASTER_OFF,
+    JUDGE_ADDRESS_ABOVE_REACH,
+    JUDGE_NO_MEMORY,
     JUDGE_RULES /* how many there are in all */
 };
 

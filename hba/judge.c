@@ -10,6 +10,7 @@
 #include <string.h>
 
 #define MOST_SHOWN 5    /* of the times that one rule is broken */
+#define S64A UINT32_C(0x80000000) /* of CAP */
 
 void judge_begin(struct judge *judge, const struct settings *settings, const struct memory *memory) {
     *judge = (struct judge){.on = settings->judge, .json = settings->json, .from = settings->judge_from, .depth = settings->depth, .memory = memory, .stretch = 1};
@@ -70,6 +71,16 @@ void judge_overlap(struct judge *judge, const char *what, uint64_t at, uint64_t 
     bool is_apart = at >= other_at ? at - other_at >= other_bytes : other_at - at >= bytes;
     if (!is_apart)
         judge_find(judge, JUDGE_MEMORY_OVERLAPS, "%s at %" PRIx64 ", %s at %" PRIx64, what, at, other, other_at);
+}
+
+void judge_reach(struct judge *judge, ahci_hba *hba, const char *what, uint64_t address) {
+    if (address >> 32 && !(judge_peek(hba, AHCI_REG_CAP) & S64A))
+        judge_find(judge, JUDGE_ADDRESS_ABOVE_REACH, "%s at %" PRIx64, what, address);
+}
+
+void judge_unmapped(struct judge *judge, uint64_t address, uint64_t bytes) {
+    if (judge->on)
+        judge_find(judge, JUDGE_NO_MEMORY, "%" PRIu64 " bytes at %" PRIx64, bytes, address);
 }
 
 /* ---- the end ---- */

@@ -43,6 +43,7 @@ struct judged_port {
     bool has_seen_port;         /* the port's bit of IS, at the last access to IS */
     uint32_t seen;              /* bits of PxIS at the last access to PxIS, or to IS with the port's bit; all if there was none */
     uint32_t armed;             /* bits of PxSACT that wait for PxCI */
+    uint32_t control_slots;     /* bits of PxCI whose FIS is of a software reset */
     uint64_t comreset;          /* when DET became 1, in nanoseconds */
     bool has_asked_log;         /* after a failed queued command */
     bool was_reset;             /* the same, by SRST or COMRESET */
@@ -93,6 +94,9 @@ void judge_power_on(struct judge *judge);
 void judge_fetch(struct judge *judge, uint32_t slot);
 void judge_run(struct judge *judge, ahci_hba *hba, uint32_t slot, uint64_t address, const uint8_t *bytes, size_t count);
 
+/* What the controller wants to read or to write is no memory. */
+void judge_unmapped(struct judge *judge, uint64_t address, uint64_t bytes);
+
 /* The command of a slot ends: what was read of it is compared with the guest's memory. */
 void judge_answer(struct judge *judge, uint32_t slot);
 
@@ -109,6 +113,12 @@ uint32_t judge_peek(ahci_hba *hba, uint32_t offset);
 
 /* Finds two overlapping ranges of memory. */
 void judge_overlap(struct judge *judge, const char *what, uint64_t at, uint64_t bytes, const char *other, uint64_t other_at, uint64_t other_bytes);
+
+/* Whether the command table of a slot, in the guest's memory, has a FIS of a software reset. */
+bool judge_is_control(const struct judge *judge, ahci_hba *hba, uint32_t slot);
+
+/* Finds an address above 4 GiB that the controller can't reach. */
+void judge_reach(struct judge *judge, ahci_hba *hba, const char *what, uint64_t address);
 
 /* The list or the received FIS area. */
 uint64_t judge_list(ahci_hba *hba);

@@ -81,6 +81,7 @@ static void judge_header(struct judge *judge, ahci_hba *hba, uint32_t slot) {
         if (broken)
             judge_find(judge, rule, "slot %" PRIu32 ", header %02x %02x", slot, judged->header[0], judged->header[1]);
     }
+    judge_reach(judge, hba, "a table", table);
     judge_overlap(judge, "a table", table, bytes, "the list", judge_list(hba), JUDGE_LIST_BYTES);
     judge_overlap(judge, "a table", table, bytes, "the received FIS area", judge_area(hba), JUDGE_AREA_BYTES);
 }
@@ -96,12 +97,21 @@ static bool reads_error_log(const uint8_t *fis) {
     return (fis[2] == READ_LOG_EXT || fis[2] == READ_LOG_DMA_EXT) && fis[4] == ERROR_LOG;
 }
 
+/* Whether a command FIS is of a software reset: C is 0 in both of its FISes. */
+static bool is_control(const uint8_t *fis) {
+    return fis[0] == H2D && !(fis[1] & IS_COMMAND);
+}
+
+bool judge_is_control(const struct judge *judge, ahci_hba *hba, uint32_t slot) {
+    struct judged judged = {0};
+    uint64_t bytes;
+    return memory_read(judge->memory, judge_list(hba) + sizeof judged.header * (uint64_t)slot, judged.header, sizeof judged.header)
+           && memory_read(judge->memory, table_of(&judged, &bytes), judged.fis, sizeof judged.fis) && is_control(judged.fis);
+}
+
 /* A FIS of a software reset, which comes in pairs: SRST is set, then cleared (section 10.4.1). */
-static void judge_control(struct judge *judge, ahci_hba *hba, uint32_t slot, bool sets) {
+static void judge_control(struct judge *judge, uint32_t slot, bool sets) {
     struct judged_port *port = &judge->port;
-    uint32_t others = (judge_peek(hba, AHCI_REG_PXCI) | judge_peek(hba, AHCI_REG_PXSACT)) & ~(UINT32_C(1) << slot);
-    if (sets && others)
-        judge_find(judge, JUDGE_RESET_BESIDE_COMMANDS, "slot %" PRIu32 ", others %08" PRIx32, slot, others);
     if (!sets && !port->is_resetting)
         judge_find(judge, JUDGE_RESET_ALONE, "slot %" PRIu32 ", SRST is 0", slot);
     port->is_resetting = sets;
@@ -177,8 +187,8 @@ static void judge_command(struct judge *judge, ahci_hba *hba, uint32_t slot) {
     judge_fis(judge, slot, active);
     if (is_queued(fis))
         judge_queued(judge, hba, slot, active, fis);
-    if (fis[0] == H2D && !(fis[1] & IS_COMMAND)) {
-        judge_control(judge, hba, slot, fis[15] & SRST);
+    if (is_control(fis)) {
+        judge_control(judge, slot, fis[15] & SRST);
     } else if (judge->port.is_resetting) {
         judge_find(judge, JUDGE_RESET_ALONE, "slot %" PRIu32 ", command %02x while SRST is 1", slot, fis[2]);
         judge->port.is_resetting = false;
@@ -207,6 +217,7 @@ static void judge_entry(struct judge *judge, ahci_hba *hba, uint32_t slot, const
         if (broken)
             judge_find(judge, rule, "slot %" PRIu32 ", %" PRIu32 " bytes", slot, length);
     }
+    judge_reach(judge, hba, "data", address);
     judge_overlap(judge, "data", address, length, "the list", judge_list(hba), JUDGE_LIST_BYTES);
     judge_overlap(judge, "data", address, length, "the received FIS area", judge_area(hba), JUDGE_AREA_BYTES);
     judge_overlap(judge, "data", address, length, "its table", table, bytes);

@@ -96,13 +96,29 @@ static void take_link(struct judge *judge, ahci_hba *hba, uint32_t word) {
     port->awaits_link = after == 0;
 }
 
-/* PxCI: a slot that PxSACT still has from an earlier command. */
+/* The FISes of a software reset stand in the list alone, one after the other or both at once (section 10.4.1). It is asked as they are issued, since
+   the commands beside them may have ended before such a FIS is read. */
+static void take_resets(struct judge *judge, ahci_hba *hba, uint32_t issued, uint32_t word) {
+    struct judged_port *port = &judge->port;
+    uint32_t new = word & ~issued;
+    port->control_slots &= issued;
+    for (uint32_t slot = 0; slot < AHCI_MOST_TAGS; slot++)
+        if (new >> slot & 1)
+            port->control_slots |= (uint32_t)judge_is_control(judge, hba, slot) << slot;
+    uint32_t others = (issued | word | judge_peek(hba, AHCI_REG_PXSACT)) & ~port->control_slots;
+    if (new && port->control_slots && others)
+        judge_find(judge, JUDGE_RESET_BESIDE_COMMANDS, "slots %08" PRIx32 ", others %08" PRIx32, port->control_slots, others);
+}
+
+/* PxCI: a slot that PxSACT still has from an earlier command; a software reset beside other commands. */
 static void take_issue(struct judge *judge, ahci_hba *hba, uint32_t word) {
     struct judged_port *port = &judge->port;
-    uint32_t again = word & judge_peek(hba, AHCI_REG_PXSACT) & ~port->armed & ~judge_peek(hba, AHCI_REG_PXCI);
+    uint32_t issued = judge_peek(hba, AHCI_REG_PXCI), again = word & judge_peek(hba, AHCI_REG_PXSACT) & ~port->armed & ~issued;
     if (again)
         judge_find(judge, AHCI_RULE_SLOT_USED_AGAIN, "%08" PRIx32 " at %03x", word, AHCI_REG_PXCI);
     port->armed &= ~word;
+    if (judge_peek(hba, AHCI_REG_PXCMD) & ST)
+        take_resets(judge, hba, issued, word);
 }
 
 /* A received FIS area that changes. */
@@ -128,8 +144,14 @@ static void take_word(struct judge *judge, ahci_hba *hba, uint32_t offset, uint3
     case AHCI_REG_PXCLB:
         port->has_list = true;
         break;
-    case AHCI_REG_PXFB:
+    case AHCI_REG_PXCLBU:
+        judge_reach(judge, hba, "the list", (uint64_t)word << 32 | judge_peek(hba, AHCI_REG_PXCLB));
+        break;
     case AHCI_REG_PXFBU:
+        judge_reach(judge, hba, "the received FIS area", (uint64_t)word << 32 | judge_peek(hba, AHCI_REG_PXFB));
+        take_area(judge, offset, word);
+        break;
+    case AHCI_REG_PXFB:
         take_area(judge, offset, word);
         break;
     case AHCI_REG_PXCMD:

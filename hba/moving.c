@@ -34,6 +34,12 @@ static void report_unmapped(struct device *device) {
     device->mute = true;
 }
 
+/* The driver has given an address where no memory is. */
+static void find_unmapped(struct device *device) {
+    judge_unmapped(&device->judge, device->state.address, device->state.length);
+    report_unmapped(device);
+}
+
 /* Whether a script says that there is no memory for this run, or that it meets wrong data. */
 static bool is_provoked(struct device *device) {
     struct provoked *it = &device->provoked;
@@ -72,7 +78,7 @@ static enum run move_in(struct device *device) {
     if (moved == MOVED_LATER)
         return RUN_LATER;
     if (moved == MOVED_NOTHING) {
-        report_unmapped(device);
+        find_unmapped(device);
         return RUN_MOVED;
     }
     uint32_t status = ahci_hba_supply(&device->hba, bytes, count);
@@ -102,7 +108,7 @@ static enum run move_out(struct device *device) {
     if (moved == MOVED_ALL)
         device_must("ahci_hba_written", ahci_hba_written(&device->hba));
     else
-        report_unmapped(device);
+        find_unmapped(device);
     return RUN_MOVED;
 }
 
