@@ -221,6 +221,8 @@ class Mutations(Tools):
         self.assertEqual(self.listed("--seed", "3", "low"), self.listed("--seed", "3", "low"))
         self.assertEqual(["src/lib.rt:10 two: 2  ->  3"], self.listed("--only", "two", "low"))
         self.assertEqual(len(BODIES), len(self.listed("--each", "1", "low")))
+        self.assertEqual(1, len({it.split()[1] for it in self.listed("--functions", "1", "low")}))
+        self.assertEqual(self.listed("low"), self.listed("--functions", str(len(BODIES)), "low"))
         self.commit()
         self.assertRegex(self.run_with("--default-seed", "low").stdout, r"^seed \d+\n")
 
