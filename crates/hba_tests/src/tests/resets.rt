@@ -88,7 +88,7 @@ const OFFLINE: &[Row] = &[
     Reads(PX_SCTL, 0x304),
     Reads(PX_SSTS, 4),
     Writes(PX_SCTL, 0xFFFF_FF0F),
-    Reads(PX_SCTL, 0xF0F),
+    Reads(PX_SCTL, 0xF_FF0F),
     Reads(PX_SSTS, 4),
     Writes(PX_SCTL, 0),
     Reads(PX_SSTS, 0x123),
