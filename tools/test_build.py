@@ -310,8 +310,8 @@ class Builds(unittest.TestCase):
         _, said = ran.communicate(timeout=MOST)
         self.assertEqual(ran.returncode, 130)
         self.assertIn("stopped; ./ahci --build goes on from here", said)
-        status, _, calls = self.build()
-        self.assertEqual(status, 0)
+        status, said, calls = self.build()
+        self.assertEqual(status, 0, said)
         self.assertNotIn("low", calls)
 
     def test_a_stopped_build_leaves_no_process(self) -> None:
