@@ -342,6 +342,16 @@ class Builds(unittest.TestCase):
         self.assertIn("waiting for another build", said)
         self.assertEqual(sorted(self.read(self.calls).split()), ["ahci", "low", "middle", "side"])
 
+    def test_what_is_built_waits_for_no_other_build(self) -> None:
+        self.build("--below", "middle")
+        other = self.start(wait=60)
+        until(lambda: {"side", "middle"} <= set(self.read(self.calls).split()))
+        status, said, calls = self.build("--below", "middle")
+        other.send_signal(signal.SIGTERM)
+        other.communicate(timeout=MOST)
+        self.assertEqual((status, calls), (0, []))
+        self.assertNotIn("waiting for another build", said)
+
     def test_without_rt_it_says_so(self) -> None:
         os.remove(f"{self.room}/kit/bin/rt")
         ran = self.start(path=f"{self.room}/kit/bin:/usr/bin:/bin")
