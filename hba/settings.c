@@ -65,7 +65,7 @@ static const char help[] =
     "                               (zeros), or they stay as they are (advice) (default zeros)\n"
     "      --pick WHICH             The command that the device goes on with: that of the low, the high or a random slot, or by roundrobin that\n"
     "                               of the next slot after the one answered last, going round past 31 to 0 (default low)\n"
-    "      --seed N                 The seed of --pick random (default 1)\n"
+    "      --seed N                 The seed of --pick random, and of the jitter of --delay (default 1)\n"
     "      --fail WHERE:EE[:COUNT][,CONDITION]..\n"
     "                               The device fails commands with the error byte EE, two hexadecimal digits. WHERE is LBA, LBA-LBA\n"
     "                               or any, the sectors that they touch; COUNT is how many, or ever (default 1; ever with one of\n"
