@@ -259,7 +259,7 @@ typedef enum ahci_event {
     AHCI_EVENT_REISSUE = 6,  /* tag */
     AHCI_EVENT_COLLECT = 7,  /* tag */
     AHCI_EVENT_IDENTIFY = 8, /* IDENTIFY DEVICE was carried out */
-    AHCI_EVENT_FLUSH = 9,    /* FLUSH CACHE EXT was carried out */
+    AHCI_EVENT_FLUSH = 9,    /* FLUSH CACHE EXT, or FLUSH CACHE of a controller, was carried out */
     AHCI_EVENT_READ_LOG = 10, /* READ LOG EXT by itself: no port records it */
     AHCI_EVENT_ZERO = 11     /* DATA SET MANAGEMENT with TRIM has made sectors zeros: lba, sectors */
 } ahci_event;
@@ -439,7 +439,7 @@ typedef enum ahci_rule {
     AHCI_RULE_START_WITHOUT_DEVICE = 3, /* ST is set while PxSSTS.DET is not 3 (section 10.3.1) */
     AHCI_RULE_RECEIVING_CLEARED_WHILE_STARTED = 4, /* FRE is cleared while ST is 1 (section 10.3.2) */
     AHCI_RULE_LIST_MOVED_WHILE_STARTED = 5, /* PxCLB or PxCLBU is changed while ST is 1 (section 10.3.1) */
-    AHCI_RULE_AREA_MOVED_WHILE_RECEIVING = 6, /* PxFB or PxFBU is changed while FRE is 1 (section 10.3.2) */
+    AHCI_RULE_AREA_MOVED_WHILE_RECEIVING = 6, /* PxFB or PxFBU is changed while FRE is 1 (section 3.3.7) */
     AHCI_RULE_CLEAR_BUSY_WHILE_STARTED = 7, /* CLO is set while ST is 1 (section 3.3.7) */
     AHCI_RULE_LINK_CHANGED_WHILE_STARTED = 8, /* PxSCTL.DET is changed while ST is 1 (section 3.3.11) */
     AHCI_RULE_RESERVED_LINK_STATE = 9, /* PxSCTL.DET is set to a reserved value (section 3.3.11) */
@@ -451,7 +451,7 @@ typedef enum ahci_rule {
     AHCI_RULE_RESERVED_BITS = 15, /* reserved bits of a register are written 1 (section 3) */
     AHCI_RULE_FIS_LENGTH = 16, /* CFL is not the five dwords of a Register FIS - Host to Device, or the three of BIST Activate (section 4.2.2) */
     AHCI_RULE_NO_COMMAND_FIS = 17, /* CFIS is no Register FIS - Host to Device, and no BIST Activate FIS with B (section 4.2.3) */
-    AHCI_RULE_ATAPI_FLAG = 18, /* A is 1 for a disk (section 4.2.2) */
+    AHCI_RULE_ATAPI_FLAG = 18, /* A is 1 for another command than PACKET (section 4.2.2) */
     AHCI_RULE_WRITE_FLAG = 19, /* W is not the direction of the data (section 4.2.2) */
     AHCI_RULE_ACTIVE_WITHOUT_QUEUE = 20, /* PxSACT has the slot of a command that is not queued (section 3.3.13) */
     AHCI_RULE_QUEUE_WITHOUT_ACTIVE = 21, /* PxSACT does not have the slot of a queued command (section 5.5.1) */
@@ -460,8 +460,8 @@ typedef enum ahci_rule {
     AHCI_RULE_TABLE_UNALIGNED = 24, /* CTBA is not a multiple of 128 (section 4.2.2) */
     AHCI_RULE_ODD_ADDRESS = 25, /* DBA of a PRDT entry is odd (section 4.2.3) */
     AHCI_RULE_EVEN_COUNT = 26, /* bit 0 of DBC is 0: the length is odd (section 4.2.3) */
-    AHCI_RULE_LIST_TOO_SHORT = 27, /* the PRDT has fewer bytes than the command moves (section 3.3.5) */
-    AHCI_RULE_LIST_TOO_LONG = 28, /* the PRDT has more bytes than the command moves (section 4.2.3) */
+    AHCI_RULE_LIST_TOO_SHORT = 27, /* the PRDT has fewer bytes than the command moves (section 6.1.5) */
+    AHCI_RULE_LIST_TOO_LONG = 28, /* the PRDT has more bytes than the command moves (section 6.1.6) */
     AHCI_RULE_LIST_UNALIGNED = 29, /* PxCLB is written an address that is not a multiple of 1,024 (section 3.3.1) */
     AHCI_RULE_AREA_UNALIGNED = 30, /* PxFB is written an address that is not a multiple of 256 (section 3.3.3) */
     AHCI_RULE_SLOT_USED_AGAIN = 31, /* a slot is used while PxCI or PxSACT still has it (section 5.5.1) */
@@ -470,7 +470,7 @@ typedef enum ahci_rule {
     AHCI_RULE_START_WITH_SERR = 34, /* ST is set while PxSERR is not 0 (section 10.1.2) */
     AHCI_RULE_ENABLE_OVER_STATUS = 35, /* PxIE or GHC.IE enables what PxIS or IS already has (section 10.1.2) */
     AHCI_RULE_SPEED_ABOVE_INTERFACE = 36, /* PxSCTL.SPD is above CAP.ISS, or reserved (section 3.3.11) */
-    AHCI_RULE_POWER_WITHOUT_CAPABILITY = 37, /* ICC, ALPE or ASP is set without the capability (section 3.3.7) */
+    AHCI_RULE_POWER_WITHOUT_CAPABILITY = 37, /* ICC, ALPE or ASP is set without the capability (section 3.1.1) */
     AHCI_RULE_QUEUE_WITHOUT_CAPABILITY = 38, /* a bit of PxSACT is set while CAP.SNCQ is 0 (section 3.1.1) */
     AHCI_RULE_PREFETCH_WITH_QUEUE = 39, /* P is 1 for a queued command (section 4.2.2) */
     AHCI_RULE_PORT_OF_MULTIPLIER = 40, /* PMP of a header or PM Port of a FIS is not 0, without port multipliers (section 4.2.2) */

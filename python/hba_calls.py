@@ -190,6 +190,16 @@ with Hba(bytes(SECTORS * 512), depth=32) as hba:
 header, fis = struct.pack("<HHIQ16x", 5, 1, 0, TABLES), queued(0x60, 2, 5).ljust(20, b"\0")
 assert command_breaks(Rule.TAG_NOT_SLOT, 3, True, header, fis) and not command_breaks(Rule.TAG_NOT_SLOT, 2, True, header, fis)
 assert command_breaks(Rule.QUEUE_WITHOUT_ACTIVE, 2, False, header, fis)
+# ACS-3 and Serial ATA 3.1: NCQ NON-DATA, SEND and RECEIVE FPDMA QUEUED are queued commands, with a tag and Auxiliary; READ DMA is none. AHCI 1.3.1, 5.5.1: A is of PACKET
+for code in (0x60, 0x61, 0x63, 0x64, 0x65):
+    queued = bytes([0x27, 0x80, code]).ljust(12, b"\0") + bytes([2 << 3]).ljust(8, b"\0")
+    assert command_breaks(Rule.QUEUE_WITHOUT_ACTIVE, 2, False, header, queued) and not command_breaks(Rule.ACTIVE_WITHOUT_QUEUE, 2, True, header, queued)
+    assert command_breaks(Rule.TAG_NOT_SLOT, 3, True, header, queued) and not command_breaks(Rule.TAG_NOT_SLOT, 2, True, header, queued)
+    assert not command_breaks(Rule.RESERVED_FIS, 2, True, header, queued[:16] + b"\1\0\0\0")
+unqueued = bytes([0x27, 0x80, 0xC8]).ljust(12, b"\0") + bytes([1]).ljust(8, b"\0")
+assert command_breaks(Rule.ACTIVE_WITHOUT_QUEUE, 2, True, header, unqueued) and command_breaks(Rule.RESERVED_FIS, 2, False, header, unqueued[:16] + b"\1\0\0\0")
+packet = struct.pack("<HHIQ16x", 1 << 5 | 5, 0, 0, TABLES)
+assert not command_breaks(Rule.ATAPI_FLAG, 0, False, packet, b"\x27\x80\xA0".ljust(20, b"\0")) and command_breaks(Rule.ATAPI_FLAG, 0, False, packet, unqueued)
 assert entry_breaks(Rule.ODD_ADDRESS, struct.pack("<QII", DATA + 1, 0, 511)) and not entry_breaks(Rule.EVEN_COUNT, struct.pack("<QII", DATA, 0, 511))
 assert entry_breaks(Rule.RESERVED_ENTRY, struct.pack("<QII", DATA, 1, 511)) and not entry_breaks(Rule.RESERVED_ENTRY, struct.pack("<QII", DATA, 0, 1 << 31 | 511))
 assert command_breaks(Rule.RESET_FLAGS, 0, False, struct.pack("<HHIQ16x", 1 << 8 | 5, 0, 0, TABLES), bytes([0x27, 0]).ljust(15, b"\0") + bytes([4]) + bytes(4))

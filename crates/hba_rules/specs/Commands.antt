@@ -8,7 +8,7 @@ use Rattle.hba_command.specs.CommandHeader.{header_at}
 use Rattle.hba_command.specs.Task.{task_of}
 use Rattle.hba_command.specs.declared.header.CommandHeader.{CommandHeader}
 use Rattle.hba_command.specs.declared.task.Task.{Task}
-use Rattle.hba_command.specs.declared.task.Task.TheVariants.{Queue, Control}
+use Rattle.hba_command.specs.declared.task.Task.TheVariants.{Control}
 use Rattle.hba_memory.specs.Reading.{is_write, moved_by}
 use Rattle.hba_rules.specs.declared.rule.Rule.{Rule}
 use Rattle.hba_rules.specs.declared.rule.Rule.TheVariants as rule
@@ -17,14 +17,13 @@ use Rattle.hba_rules.specs.declared.rule.Rule.TheVariants as rule
 abbrev pub has_direction : Task → Bool → Bool
 has_direction t write = if nat_eq (moved_by t) 0 then true else (if is_write t then write else not write)
 
-abbrev pub is_queued : Task → Bool
-is_queued (Queue q) = true
-is_queued other = false
+-- the commands of the NCQ feature set: READ and WRITE FPDMA QUEUED, NCQ NON-DATA, SEND and RECEIVE FPDMA QUEUED (ACS-3)
+abbrev pub is_queued : H2dFields → Bool
+is_queued f = f.c && (nat_eq f.command 0x60 || nat_eq f.command 0x61 || nat_eq f.command 0x63 || nat_eq f.command 0x64 || nat_eq f.command 0x65)
 
--- the tag is another than the slot
-abbrev pub has_other_tag : Task → ℕ → Bool
-has_other_tag (Queue q) slot = not (nat_eq q.tag slot)
-has_other_tag other slot = false
+-- the tag of such a command, bits 7:3 of the count, is another than the slot
+abbrev pub has_other_tag : H2dFields → ℕ → Bool
+has_other_tag f slot = is_queued f && not (nat_eq (f.count / 8 % 32) slot)
 
 -- the FIS sets SRST
 abbrev pub resets : Task → Bool
@@ -60,37 +59,41 @@ is_right_bist header fis = (header_at header).bist && has_bist_type fis
 abbrev pub has_length : (header fis : List ℕ) → Bool
 has_length header fis = nat_eq (header_at header).fis_dwords (if is_right_bist header fis then 3 else 5)
 
--- bits 6:4 of byte 1, and bytes 16 to 19, of a Register FIS - Host to Device
-abbrev pub has_reserved_fis : List ℕ → Bool
-has_reserved_fis fis = not (nat_eq (byte 1 fis / 16 % 8) 0) || not (nat_eq (number 16 4 fis) 0)
+-- bits 6:4 of byte 1, and bytes 16 to 19, which are Auxiliary of a queued command (Serial ATA 3.1), of a Register FIS - Host to Device
+abbrev pub has_reserved_fis : (fis : List ℕ) → (queued : Bool) → Bool
+has_reserved_fis fis queued = not (nat_eq (byte 1 fis / 16 % 8) 0) || (not queued && not (nat_eq (number 16 4 fis) 0))
+
+-- the command is PACKET, A0h
+abbrev pub is_packet : (fis : List ℕ) → Bool
+is_packet fis = nat_eq (byte 0 fis) 0x27 && nat_eq (byte 1 fis / 128) 1 && nat_eq (byte 2 fis) 0xa0
 
 -- R and C of a header are 1 for a FIS that sets SRST, and 0 for every other
 abbrev pub has_wrong_flags : CommandHeader → Task → Bool
 has_wrong_flags h t = if resets t then not (h.reset && h.clears_busy) else h.reset || h.clears_busy
 
--- of what the command asks for; PxSACT has its slot or not
-abbrev pub task_rule : Rule → (slot : ℕ) → (active write : Bool) → Task → Bool
-task_rule rule.WriteFlag slot active write t = not (has_direction t write)
-task_rule rule.ActiveWithoutQueue slot active write t = active && not (is_queued t)
-task_rule rule.QueueWithoutActive slot active write t = is_queued t && not active
-task_rule rule.TagNotSlot slot active write t = has_other_tag t slot
-task_rule other slot active write t = false
+-- of a queued command and its slot, which PxSACT has or not
+abbrev pub queue_rule : Rule → (slot : ℕ) → (active : Bool) → H2dFields → Bool
+queue_rule rule.ActiveWithoutQueue slot active f = active && not (is_queued f)
+queue_rule rule.QueueWithoutActive slot active f = is_queued f && not active
+queue_rule rule.TagNotSlot slot active f = has_other_tag f slot
+queue_rule other slot active f = false
 
--- the same, with the header and the FIS
-abbrev pub flag_rule : Rule → (slot : ℕ) → (active : Bool) → (header fis : List ℕ) → Task → Bool
-flag_rule rule.PrefetchWithQueue slot active header fis t = prefetches header && is_queued t
-flag_rule rule.ResetFlags slot active header fis t = has_wrong_flags (header_at header) t
-flag_rule rule.ReservedFis slot active header fis t = has_reserved_fis fis
-flag_rule r slot active header fis t = task_rule r slot active (header_at header).write t
+-- of the flags of the header, and the reserved bits of the FIS
+abbrev pub flag_rule : Rule → (slot : ℕ) → (active : Bool) → (header fis : List ℕ) → H2dFields → Bool
+flag_rule rule.WriteFlag slot active header fis f = not (has_direction (task_of f) (header_at header).write)
+flag_rule rule.PrefetchWithQueue slot active header fis f = prefetches header && is_queued f
+flag_rule rule.ResetFlags slot active header fis f = has_wrong_flags (header_at header) (task_of f)
+flag_rule rule.ReservedFis slot active header fis f = has_reserved_fis fis (is_queued f)
+flag_rule r slot active header fis f = queue_rule r slot active f
 
 abbrev pub fis_rule : Rule → (slot : ℕ) → (active : Bool) → (header fis : List ℕ) → Option H2dFields → Bool
 fis_rule rule.NoCommandFis slot active header fis None = not (is_right_bist header fis)
 fis_rule other slot active header fis None = false
-fis_rule r slot active header fis (Some f) = flag_rule r slot active header fis (task_of f)
+fis_rule r slot active header fis (Some f) = flag_rule r slot active header fis f
 
 abbrev pub command_breaks : Rule → (slot : ℕ) → (active : Bool) → (header fis : List ℕ) → Bool
 command_breaks rule.FisLength slot active header fis = not (has_length header fis)
-command_breaks rule.AtapiFlag slot active header fis = (header_at header).atapi
+command_breaks rule.AtapiFlag slot active header fis = (header_at header).atapi && not (is_packet fis)
 command_breaks rule.ReservedHeader slot active header fis = has_reserved_bit header || not (nat_eq (reserved_dwords header) 0)
 command_breaks rule.TableUnaligned slot active header fis = not (nat_eq (byte 8 header % 128) 0)
 command_breaks rule.PortOfMultiplier slot active header fis = names_multiplier header fis

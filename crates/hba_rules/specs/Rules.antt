@@ -112,7 +112,7 @@ section_of rule.StartWhileBusy = codes "10.3.1"
 section_of rule.StartWithoutDevice = codes "10.3.1"
 section_of rule.ReceivingClearedWhileStarted = codes "10.3.2"
 section_of rule.ListMovedWhileStarted = codes "10.3.1"
-section_of rule.AreaMovedWhileReceiving = codes "10.3.2"
+section_of rule.AreaMovedWhileReceiving = codes "3.3.7"
 section_of rule.ClearBusyWhileStarted = codes "3.3.7"
 section_of rule.LinkChangedWhileStarted = codes "3.3.11"
 section_of rule.ReservedLinkState = codes "3.3.11"
@@ -133,8 +133,8 @@ section_of rule.ReservedHeader = codes "4.2.2"
 section_of rule.TableUnaligned = codes "4.2.2"
 section_of rule.OddAddress = codes "4.2.3"
 section_of rule.EvenCount = codes "4.2.3"
-section_of rule.ListTooShort = codes "3.3.5"
-section_of rule.ListTooLong = codes "4.2.3"
+section_of rule.ListTooShort = codes "6.1.5"
+section_of rule.ListTooLong = codes "6.1.6"
 section_of rule.ListUnaligned = codes "3.3.1"
 section_of rule.AreaUnaligned = codes "3.3.3"
 section_of rule.SlotUsedAgain = codes "5.5.1"
@@ -143,7 +143,7 @@ section_of rule.StartWithErrors = codes "6.2.2"
 section_of rule.StartWithSerr = codes "10.1.2"
 section_of rule.EnableOverStatus = codes "10.1.2"
 section_of rule.SpeedAboveInterface = codes "3.3.11"
-section_of rule.PowerWithoutCapability = codes "3.3.7"
+section_of rule.PowerWithoutCapability = codes "3.1.1"
 section_of rule.QueueWithoutCapability = codes "3.1.1"
 section_of rule.PrefetchWithQueue = codes "4.2.2"
 section_of rule.PortOfMultiplier = codes "4.2.2"
@@ -156,8 +156,12 @@ section_of rule.SlotAboveList = codes "3.1.1"
 -- the standard forbids all but these
 abbrev pub verdict_of : Rule → Verdict
 verdict_of rule.StartWithReceiving = verdict.Open
+-- software should set PxSACT only while ST is 1
+verdict_of rule.ActiveWhileStopped = verdict.Odd
 verdict_of rule.CommandWhileHalted = verdict.Odd
 verdict_of rule.InterruptNotCleared = verdict.Odd
 verdict_of rule.ListTooLong = verdict.Odd
 verdict_of rule.SpeedAboveInterface = verdict.Odd
+-- without SNCQ software should issue no such commands
+verdict_of rule.QueueWithoutCapability = verdict.Odd
 verdict_of other = verdict.Broken

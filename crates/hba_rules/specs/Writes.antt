@@ -1,6 +1,6 @@
 -- Which rules a word breaks that a driver writes to a register, as tables: a row for each rule of a register, whose conditions are on the
 -- registers as they are before the write, and on the word (AHCI 1.3.1, chapters 3, 5, 6 and 10).
-use Rattle.std.specs.Prelude.{ℕ, ◌-◌, ◌*◌, ◌/◌, ◌%◌, ◌^◌, Bool, true, false, not, ◌&&◌, ◌||◌, nat_eq, nat_lt, bit_and, bit_or, List, [], ◌∷◌}
+use Rattle.std.specs.Prelude.{ℕ, ◌-◌, ◌*◌, ◌/◌, ◌%◌, ◌^◌, Bool, true, false, not, ◌&&◌, ◌||◌, nat_eq, nat_lt, bit_and, bit_or, List, [], ◌∷◌, if◌then◌else◌}
 use Rattle.hba_regs.specs.HbaState.{HbaState}
 use Rattle.hba_regs.specs.Reading.{word_at}
 use Rattle.hba_regs.specs.declared.register.Register.{Register}
@@ -72,9 +72,14 @@ has_more_speed s word = nat_lt (word_at s Cap / 2 ^ 20 % 16) (word / 2 ^ 4 % 16)
 abbrev pub has_state : (icc cap : ℕ) → Bool
 has_state icc cap = nat_eq icc 0 || nat_eq icc 1 || (nat_eq icc 2 && any_of cap 0x2000) || (nat_eq icc 6 && any_of cap 0x4000)
 
--- such a state is missing; or ALPE (26) or ASP (27) is 1 without CAP.SALP (bit 26)
+-- ALPE (26) and ASP (27) want CAP.SALP (bit 26); with ALPE the HBA initiates slumber if ASP is 1, which wants CAP.SSC, and else partial, which wants CAP.PSC
+abbrev pub has_management : (word cap : ℕ) → Bool
+has_management word cap =
+    not (any_of word 0x0c000000) || (any_of cap 0x04000000 && (not (any_of word 0x04000000) || any_of cap (if any_of word 0x08000000 then 0x4000 else 0x2000)))
+
+-- a state or what initiates it is missing
 abbrev pub lacks_power : Condition
-lacks_power s word = not (has_state (word / 2 ^ 28) (word_at s Cap)) || (any_of word 0x0c000000 && not (any_of (word_at s Cap) 0x04000000))
+lacks_power s word = not (has_state (word / 2 ^ 28) (word_at s Cap)) || not (has_management word (word_at s Cap))
 
 -- a slot of the word was issued, and is not active
 abbrev pub follows_issue : Condition

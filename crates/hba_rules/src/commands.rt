@@ -2,7 +2,7 @@
 
 ghost use Rattle.std.specs.Prelude.{◌≡◌, ◌≤◌, ◌+◌};
 ghost use Rattle.sata_fis.specs.Places.{number};
-ghost use Rattle.hba_rules.specs.Commands.{command_breaks, fis_rule, flag_rule, has_direction, has_length, has_other_tag, has_reserved_bit, has_reserved_fis, has_wrong_flags, is_queued, is_right_bist, is_wrong_bist, names_multiplier, prefetches, reserved_dwords, resets, task_rule};
+ghost use Rattle.hba_rules.specs.Commands.{command_breaks, fis_rule, flag_rule, has_direction, has_length, has_other_tag, has_reserved_bit, has_reserved_fis, has_wrong_flags, is_packet, is_queued, is_right_bist, is_wrong_bist, names_multiplier, prefetches, queue_rule, reserved_dwords, resets};
 
 use crate::rule::Rule;
 use byteorder::{ByteOrder, LittleEndian};
@@ -16,7 +16,7 @@ pub fn command_breaks(rule: Rule, slot: u8, active: bool, header: &[u8; 32], fis
 {
     match rule {
         Rule::FisLength => !has_length(header, fis),
-        Rule::AtapiFlag => CommandHeader::at(header).atapi,
+        Rule::AtapiFlag => CommandHeader::at(header).atapi && !is_packet(fis),
         Rule::ReservedHeader => has_reserved_bit(header) || reserved_dwords(header) != 0,
         Rule::TableUnaligned => header[8] % 128 != 0,
         Rule::PortOfMultiplier => names_multiplier(header, fis),
@@ -69,10 +69,17 @@ fn has_length(header: &[u8; 32], fis: &[u8; 20]) -> bool
 }
 
 /// Whether reserved bits of a Register FIS - Host to Device are not 0.
-fn has_reserved_fis(fis: &[u8; 20]) -> bool
-    ensures { result ≡ has_reserved_fis fis.now }
+fn has_reserved_fis(fis: &[u8; 20], queued: bool) -> bool
+    ensures { result ≡ has_reserved_fis fis.now queued }
 {
-    fis[1] / 16 % 8 != 0 || LittleEndian::read_u32(&fis[16..]) != 0
+    fis[1] / 16 % 8 != 0 || (!queued && LittleEndian::read_u32(&fis[16..]) != 0)
+}
+
+/// Whether a FIS has the command PACKET.
+fn is_packet(fis: &[u8; 20]) -> bool
+    ensures { result ≡ is_packet fis.now }
+{
+    fis[0] == 0x27 && fis[1] / 128 == 1 && fis[2] == 0xA0
 }
 
 /// Dwords 4 to 7 of a header, all bits together.
@@ -102,27 +109,28 @@ fn fis_rule(
     ensures { result ≡ fis_rule rule slot active header.now bytes.now fis.now }
 {
     match fis {
-        Some(fis) => flag_rule(rule, slot, active, header, bytes, &task_of(fis)),
+        Some(fis) => flag_rule(rule, slot, active, header, bytes, fis),
         None => matches!(rule, Rule::NoCommandFis) && !is_right_bist(header, bytes),
     }
 }
 
-/// The rules for a header together with what its command asks for.
+/// The rules for the flags of a header, and for the reserved bits of a FIS.
 fn flag_rule(
     rule: Rule,
     slot: u8,
     active: bool,
     header: &[u8; 32],
     bytes: &[u8; 20],
-    task: &Task,
+    fis: &H2d,
 ) -> bool
-    ensures { result ≡ flag_rule rule slot active header.now bytes.now task.now }
+    ensures { result ≡ flag_rule rule slot active header.now bytes.now fis.now }
 {
     match rule {
-        Rule::PrefetchWithQueue => prefetches(header) && is_queued(task),
-        Rule::ResetFlags => has_wrong_flags(&CommandHeader::at(header), task),
-        Rule::ReservedFis => has_reserved_fis(bytes),
-        _ => task_rule(rule, slot, active, CommandHeader::at(header).write, task),
+        Rule::WriteFlag => !has_direction(&task_of(fis), CommandHeader::at(header).write),
+        Rule::PrefetchWithQueue => prefetches(header) && is_queued(fis),
+        Rule::ResetFlags => has_wrong_flags(&CommandHeader::at(header), &task_of(fis)),
+        Rule::ReservedFis => has_reserved_fis(bytes, is_queued(fis)),
+        _ => queue_rule(rule, slot, active, fis),
     }
 }
 
@@ -147,15 +155,14 @@ fn resets(task: &Task) -> bool
     }
 }
 
-/// The rules for what a command asks for.
-fn task_rule(rule: Rule, slot: u8, active: bool, write: bool, task: &Task) -> bool
-    ensures { result ≡ task_rule rule slot active write task.now }
+/// The rules for a queued command and its slot.
+fn queue_rule(rule: Rule, slot: u8, active: bool, fis: &H2d) -> bool
+    ensures { result ≡ queue_rule rule slot active fis.now }
 {
     match rule {
-        Rule::WriteFlag => !has_direction(task, write),
-        Rule::ActiveWithoutQueue => active && !is_queued(task),
-        Rule::QueueWithoutActive => is_queued(task) && !active,
-        Rule::TagNotSlot => has_other_tag(task, slot),
+        Rule::ActiveWithoutQueue => active && !is_queued(fis),
+        Rule::QueueWithoutActive => is_queued(fis) && !active,
+        Rule::TagNotSlot => has_other_tag(fis, slot),
         _ => false,
     }
 }
@@ -173,19 +180,16 @@ fn has_direction(task: &Task, write: bool) -> bool
     }
 }
 
-/// Whether a command is queued.
-fn is_queued(task: &Task) -> bool
-    ensures { result ≡ is_queued task.now }
+/// Whether a command is one of the NCQ feature set.
+fn is_queued(fis: &H2d) -> bool
+    ensures { result ≡ is_queued fis.now }
 {
-    matches!(task, Task::Queue(_))
+    fis.c && matches!(fis.command, 0x60 | 0x61 | 0x63 | 0x64 | 0x65)
 }
 
 /// Whether the tag of a queued command is another than its slot.
-fn has_other_tag(task: &Task, slot: u8) -> bool
-    ensures { result ≡ has_other_tag task.now slot }
+fn has_other_tag(fis: &H2d, slot: u8) -> bool
+    ensures { result ≡ has_other_tag fis.now slot }
 {
-    match task {
-        Task::Queue(queued) => queued.tag != slot,
-        _ => false,
-    }
+    is_queued(fis) && fis.count / 8 % 32 != u16::from(slot)
 }

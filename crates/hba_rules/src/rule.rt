@@ -20,7 +20,7 @@ pub enum Rule {
     ReceivingClearedWhileStarted,
     /// PxCLB or PxCLBU is changed while ST is 1 (section 10.3.1).
     ListMovedWhileStarted,
-    /// PxFB or PxFBU is changed while FRE is 1 (section 10.3.2).
+    /// PxFB or PxFBU is changed while FRE is 1 (section 3.3.7).
     AreaMovedWhileReceiving,
     /// CLO is set while ST is 1 (section 3.3.7).
     ClearBusyWhileStarted,
@@ -44,7 +44,7 @@ pub enum Rule {
     FisLength,
     /// CFIS is no Register FIS - Host to Device, and no BIST Activate FIS with B (section 4.2.3).
     NoCommandFis,
-    /// A is 1 for a disk (section 4.2.2).
+    /// A is 1 for another command than PACKET (section 4.2.2).
     AtapiFlag,
     /// W is not the direction of the data (section 4.2.2).
     WriteFlag,
@@ -62,9 +62,9 @@ pub enum Rule {
     OddAddress,
     /// Bit 0 of DBC is 0: the length is odd (section 4.2.3).
     EvenCount,
-    /// The PRDT has fewer bytes than the command moves (section 3.3.5).
+    /// The PRDT has fewer bytes than the command moves (section 6.1.5).
     ListTooShort,
-    /// The PRDT has more bytes than the command moves (section 4.2.3).
+    /// The PRDT has more bytes than the command moves (section 6.1.6).
     ListTooLong,
     /// PxCLB is written an address that is not a multiple of 1,024 (section 3.3.1).
     ListUnaligned,
@@ -82,7 +82,7 @@ pub enum Rule {
     EnableOverStatus,
     /// PxSCTL.SPD is above CAP.ISS, or reserved (section 3.3.11).
     SpeedAboveInterface,
-    /// ICC, ALPE or ASP is set without the capability (section 3.3.7).
+    /// ICC, ALPE or ASP is set without the capability (section 3.1.1).
     PowerWithoutCapability,
     /// A bit of PxSACT is set while CAP.SNCQ is 0 (section 3.1.1).
     QueueWithoutCapability,
@@ -225,8 +225,8 @@ impl Rule {
             | Rule::StartWhileBusy
             | Rule::StartWithoutDevice
             | Rule::ListMovedWhileStarted => "10.3.1",
-            Rule::ReceivingClearedWhileStarted | Rule::AreaMovedWhileReceiving => "10.3.2",
-            Rule::ClearBusyWhileStarted | Rule::PowerWithoutCapability => "3.3.7",
+            Rule::ReceivingClearedWhileStarted => "10.3.2",
+            Rule::ClearBusyWhileStarted | Rule::AreaMovedWhileReceiving => "3.3.7",
             Rule::LinkChangedWhileStarted | Rule::ReservedLinkState | Rule::SpeedAboveInterface =>
                 "3.3.11",
             Rule::ActiveWhileStopped
@@ -249,15 +249,16 @@ impl Rule {
             Rule::NoCommandFis
             | Rule::OddAddress
             | Rule::EvenCount
-            | Rule::ListTooLong
             | Rule::ReservedFis
             | Rule::ReservedEntry => "4.2.3",
-            Rule::ListTooShort => "3.3.5",
+            Rule::ListTooShort => "6.1.5",
+            Rule::ListTooLong => "6.1.6",
             Rule::ListUnaligned => "3.3.1",
             Rule::AreaUnaligned => "3.3.3",
             Rule::StartWithSerr | Rule::EnableOverStatus => "10.1.2",
             Rule::ResetFlags => "10.4.1",
-            Rule::QueueWithoutCapability | Rule::SlotAboveList => "3.1.1",
+            Rule::PowerWithoutCapability | Rule::QueueWithoutCapability | Rule::SlotAboveList =>
+                "3.1.1",
         }
     }
 
@@ -267,10 +268,12 @@ impl Rule {
     {
         match self {
             Rule::StartWithReceiving => Verdict::Open,
-            Rule::CommandWhileHalted
+            Rule::ActiveWhileStopped
+            | Rule::CommandWhileHalted
             | Rule::InterruptNotCleared
             | Rule::ListTooLong
-            | Rule::SpeedAboveInterface => Verdict::Odd,
+            | Rule::SpeedAboveInterface
+            | Rule::QueueWithoutCapability => Verdict::Odd,
             _ => Verdict::Broken,
         }
     }

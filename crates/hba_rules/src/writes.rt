@@ -3,7 +3,7 @@
 ghost use Rattle.std.specs.Prelude.{◌≡◌, [], ◌∷◌};
 ghost use Rattle.hba_regs.specs.Reading.{word_at};
 ghost use Rattle.hba_regs.specs.declared.register.Register.TheVariants.{PxCmd};
-ghost use Rattle.hba_rules.specs.Writes.{active_row, all, any_of, area_row, command_row, enable_row, exceeds, follows_issue, global_row, has_more_speed, has_state, high_area_row, high_list_row, interrupt_row, is_above_list, is_mixed, issue_row, lacks, lacks_power, link_row, list_row, mixes_active, mixes_issued, register_row, reserved_bits, reserved_state, write_breaks, writes};
+ghost use Rattle.hba_rules.specs.Writes.{active_row, all, any_of, area_row, command_row, enable_row, exceeds, follows_issue, global_row, has_management, has_more_speed, has_state, high_area_row, high_list_row, interrupt_row, is_above_list, is_mixed, issue_row, lacks, lacks_power, link_row, list_row, mixes_active, mixes_issued, register_row, reserved_bits, reserved_state, write_breaks, writes};
 
 use crate::rule::Rule;
 use hba_regs::{HbaRegs, Register};
@@ -111,12 +111,27 @@ fn has_state(icc: u32, cap: u32) -> bool
     }
 }
 
+/// Whether the capabilities have what ALPE and ASP of a word for PxCMD ask for.
+fn has_management(word: u32, cap: u32) -> bool
+    ensures { result ≡ has_management word cap }
+{
+    if !any_of(word, 0x0c00_0000) {
+        return true;
+    }
+    let state = if any_of(word, 0x0800_0000) {
+        0x4000
+    } else {
+        0x2000
+    };
+    any_of(cap, 0x0400_0000) && (!any_of(word, 0x0400_0000) || any_of(cap, state))
+}
+
 /// Whether a word for PxCMD asks for a power state that the capabilities do not have.
 fn lacks_power(registers: &HbaRegs, word: u32) -> bool
     ensures { result ≡ lacks_power registers.now word }
 {
-    !has_state(word / 0x1000_0000, registers.word_at(Register::Cap))
-        || (any_of(word, 0x0c00_0000) && !has(registers, Register::Cap, 0x0400_0000))
+    let cap = registers.word_at(Register::Cap);
+    !has_state(word / 0x1000_0000, cap) || !has_management(word, cap)
 }
 
 /// PxCLB.
