@@ -73,9 +73,15 @@ void judge_overlap(struct judge *judge, const char *what, uint64_t at, uint64_t 
         judge_find(judge, JUDGE_MEMORY_OVERLAPS, "%s at %" PRIx64 ", %s at %" PRIx64, what, at, other, other_at);
 }
 
-void judge_reach(struct judge *judge, ahci_hba *hba, const char *what, uint64_t address) {
-    if (address >> 32 && !(judge_peek(hba, AHCI_REG_CAP) & S64A))
+uint64_t judge_reach(struct judge *judge, ahci_hba *hba, const char *what, uint64_t address) {
+    uint64_t taken = judge_taken(hba, address);
+    if (taken != address)
         judge_find(judge, JUDGE_ADDRESS_ABOVE_REACH, "%s at %" PRIx64, what, address);
+    return taken;
+}
+
+uint64_t judge_taken(ahci_hba *hba, uint64_t address) {
+    return judge_peek(hba, AHCI_REG_CAP) & S64A ? address : (uint32_t)address;
 }
 
 void judge_unmapped(struct judge *judge, uint64_t address, uint64_t bytes) {

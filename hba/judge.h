@@ -117,8 +117,9 @@ void judge_overlap(struct judge *judge, const char *what, uint64_t at, uint64_t 
 /* Whether the command table of a slot, in the guest's memory, has a FIS of a software reset. */
 bool judge_is_control(const struct judge *judge, ahci_hba *hba, uint32_t slot);
 
-/* Finds an address above 4 GiB that the controller can't reach. */
-void judge_reach(struct judge *judge, ahci_hba *hba, const char *what, uint64_t address);
+/* An address as the controller takes it: without CAP.S64A the upper half is ignored. The first also finds one that is above 4 GiB then. */
+uint64_t judge_reach(struct judge *judge, ahci_hba *hba, const char *what, uint64_t address);
+uint64_t judge_taken(ahci_hba *hba, uint64_t address);
 
 /* The list or the received FIS area. */
 uint64_t judge_list(ahci_hba *hba);

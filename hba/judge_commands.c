@@ -8,6 +8,8 @@
 #define H2D 0x27
 #define IS_COMMAND 0x80 /* C of a command FIS */
 #define SRST 0x04       /* of its control byte */
+#define NCQ_NON_DATA 0x63
+#define RECEIVE_FPDMA_QUEUED 0x65 /* SEND FPDMA QUEUED is 64h */
 #define READ_LOG_EXT 0x2F
 #define READ_LOG_DMA_EXT 0x47
 #define ERROR_LOG 0x10
@@ -48,48 +50,71 @@ void judge_fetch(struct judge *judge, uint32_t slot) {
 
 /* ---- the header ---- */
 
-/* The rules that a header breaks by itself, and the one for B: the controller reads no FIS that such a header is about. */
-static const uint32_t header_rules[] = {AHCI_RULE_FIS_LENGTH, AHCI_RULE_ATAPI_FLAG, AHCI_RULE_RESERVED_HEADER, AHCI_RULE_TABLE_UNALIGNED, AHCI_RULE_BIST_FLAG};
+/* The rules that are asked of a header, since the controller reads no FIS that a header with such a fault is about; some look at the FIS as well. */
+static const struct {
+    uint32_t rule;
+    bool asks_fis;
+} header_rules[] = {
+    {AHCI_RULE_FIS_LENGTH, true}, {AHCI_RULE_ATAPI_FLAG, true}, {AHCI_RULE_RESERVED_HEADER, false}, {AHCI_RULE_TABLE_UNALIGNED, false}, {AHCI_RULE_BIST_FLAG, true},
+};
+#define HEADER_RULES (sizeof header_rules / sizeof *header_rules)
 
 static bool is_header_rule(uint32_t rule) {
-    for (size_t i = 0; i < sizeof header_rules / sizeof *header_rules; i++)
-        if (header_rules[i] == rule)
+    for (size_t i = 0; i < HEADER_RULES; i++)
+        if (header_rules[i].rule == rule)
             return true;
     return false;
 }
 
-/* Where the command table of a header is, and how many bytes it has. */
-static uint64_t table_of(const struct judged *judged, uint64_t *bytes) {
-    const uint8_t *header = judged->header;
+/* The address of a header's table, or of an entry of a PRDT. */
+static uint64_t address_of(const uint8_t *bytes) {
     uint64_t address = 0;
     for (unsigned i = 0; i < 8; i++)
-        address |= (uint64_t)header[8 + i] << 8 * i;
-    *bytes = TABLE_BYTES + AHCI_PRD_BYTES * ((uint64_t)header[2] | (uint64_t)header[3] << 8);
-    return address & ~UINT64_C(0x7F);
+        address |= (uint64_t)bytes[i] << 8 * i;
+    return address;
 }
 
-/* Judges the header of a slot. */
+/* Where the command table is that a header names, and how many bytes it has. */
+static uint64_t named_table(const struct judged *judged) {
+    return address_of(judged->header + 8) & ~UINT64_C(0x7F);
+}
+
+static uint64_t table_bytes(const struct judged *judged) {
+    return TABLE_BYTES + AHCI_PRD_BYTES * ((uint64_t)judged->header[2] | (uint64_t)judged->header[3] << 8);
+}
+
+static uint64_t table_of(ahci_hba *hba, const struct judged *judged) {
+    return judge_taken(hba, named_table(judged));
+}
+
+/* W of a header: the data are read from memory. */
+static bool reads_memory(const struct judged *judged) {
+    return judged->header[0] & 0x40;
+}
+
+/* Judges the header of a slot. What looks at the FIS is not asked where its memory can't be read. */
 static void judge_header(struct judge *judge, ahci_hba *hba, uint32_t slot) {
     const struct judged *judged = &judge->slots[slot];
     uint8_t fis[sizeof judged->fis] = {0};
-    uint64_t bytes, table = table_of(judged, &bytes);
-    memory_read(judge->memory, table, fis, sizeof fis);
-    for (uint32_t rule = 0; rule < AHCI_RULES; rule++) {
-        uint32_t broken = 0;
-        if (is_header_rule(rule))
+    uint64_t bytes = table_bytes(judged), table = judge_reach(judge, hba, "a table", named_table(judged));
+    bool has_fis = memory_read(judge->memory, table, fis, sizeof fis);
+    for (size_t i = 0; i < HEADER_RULES; i++) {
+        uint32_t broken = 0, rule = header_rules[i].rule;
+        if (has_fis || !header_rules[i].asks_fis)
             ahci_command_breaks(rule, slot, 0, judged->header, sizeof judged->header, fis, sizeof fis, &broken);
         if (broken)
             judge_find(judge, rule, "slot %" PRIu32 ", header %02x %02x", slot, judged->header[0], judged->header[1]);
     }
-    judge_reach(judge, hba, "a table", table);
     judge_overlap(judge, "a table", table, bytes, "the list", judge_list(hba), JUDGE_LIST_BYTES);
     judge_overlap(judge, "a table", table, bytes, "the received FIS area", judge_area(hba), JUDGE_AREA_BYTES);
 }
 
 /* ---- the command FIS ---- */
 
+/* Whether a command is one of the NCQ feature set (ACS-3). */
 static bool is_queued(const uint8_t *fis) {
-    return fis[0] == H2D && fis[1] & IS_COMMAND && (fis[2] == AHCI_READ_FPDMA_QUEUED || fis[2] == AHCI_WRITE_FPDMA_QUEUED);
+    bool has_code = fis[2] == AHCI_READ_FPDMA_QUEUED || fis[2] == AHCI_WRITE_FPDMA_QUEUED || (fis[2] >= NCQ_NON_DATA && fis[2] <= RECEIVE_FPDMA_QUEUED);
+    return fis[0] == H2D && fis[1] & IS_COMMAND && has_code;
 }
 
 /* Whether a command reads the log of failed queued commands (ACS-3, READ LOG EXT). */
@@ -104,9 +129,8 @@ static bool is_control(const uint8_t *fis) {
 
 bool judge_is_control(const struct judge *judge, ahci_hba *hba, uint32_t slot) {
     struct judged judged = {0};
-    uint64_t bytes;
     return memory_read(judge->memory, judge_list(hba) + sizeof judged.header * (uint64_t)slot, judged.header, sizeof judged.header)
-           && memory_read(judge->memory, table_of(&judged, &bytes), judged.fis, sizeof judged.fis) && is_control(judged.fis);
+           && memory_read(judge->memory, table_of(hba, &judged), judged.fis, sizeof judged.fis) && is_control(judged.fis);
 }
 
 /* A FIS of a software reset, which comes in pairs: SRST is set, then cleared (section 10.4.1). */
@@ -183,7 +207,6 @@ static void judge_command(struct judge *judge, ahci_hba *hba, uint32_t slot) {
     const struct judged *judged = &judge->slots[slot];
     const uint8_t *fis = judged->fis;
     bool active = judge_peek(hba, AHCI_REG_PXSACT) >> slot & 1;
-    uint64_t bytes;
     judge_fis(judge, slot, active);
     if (is_queued(fis))
         judge_queued(judge, hba, slot, active, fis);
@@ -194,33 +217,31 @@ static void judge_command(struct judge *judge, ahci_hba *hba, uint32_t slot) {
         judge->port.is_resetting = false;
     }
     judge_recovery(judge, hba, slot, fis);
-    recovery_command(judge, slot, fis, table_of(judged, &bytes), judged->entries_left);
+    recovery_command(judge, slot, fis, table_of(hba, judged), judged->entries_left);
     end_list(judge, slot);
 }
 
 /* ---- the PRDT ---- */
 
-static uint64_t address_of(const uint8_t *entry) {
-    uint64_t address = 0;
-    for (unsigned i = 0; i < 8; i++)
-        address |= (uint64_t)entry[i] << 8 * i;
-    return address;
+/* Data that are written over what the controller reads or writes itself; data that are read from there harm nothing. */
+static void judge_data(struct judge *judge, ahci_hba *hba, const struct judged *judged, uint64_t address, uint64_t length) {
+    judge_overlap(judge, "data", address, length, "the list", judge_list(hba), JUDGE_LIST_BYTES);
+    judge_overlap(judge, "data", address, length, "the received FIS area", judge_area(hba), JUDGE_AREA_BYTES);
+    judge_overlap(judge, "data", address, length, "its table", table_of(hba, judged), table_bytes(judged));
 }
 
 static void judge_entry(struct judge *judge, ahci_hba *hba, uint32_t slot, const uint8_t *entry) {
     struct judged *judged = &judge->slots[slot];
     uint32_t length = ((uint32_t)entry[12] | (uint32_t)entry[13] << 8 | (uint32_t)(entry[14] & 0x3F) << 16) + 1;
-    uint64_t address = address_of(entry), bytes, table = table_of(judged, &bytes);
+    uint64_t address = judge_reach(judge, hba, "data", address_of(entry));
     for (uint32_t rule = 0; rule < AHCI_RULES; rule++) {
         uint32_t broken = 0;
         ahci_entry_breaks(rule, entry, AHCI_PRD_BYTES, &broken);
         if (broken)
             judge_find(judge, rule, "slot %" PRIu32 ", %" PRIu32 " bytes", slot, length);
     }
-    judge_reach(judge, hba, "data", address);
-    judge_overlap(judge, "data", address, length, "the list", judge_list(hba), JUDGE_LIST_BYTES);
-    judge_overlap(judge, "data", address, length, "the received FIS area", judge_area(hba), JUDGE_AREA_BYTES);
-    judge_overlap(judge, "data", address, length, "its table", table, bytes);
+    if (!reads_memory(judged))
+        judge_data(judge, hba, judged, address, length);
     judged->total += length;
     judged->entries_left -= judged->entries_left > 0;
 }

@@ -10,6 +10,7 @@
 #define FR 0x4000u
 #define CR 0x8000u
 #define DET 0xFu
+#define CAP2 0x24u
 #define MILLISECOND UINT64_C(1000000)
 
 static uint64_t now(void) {
@@ -74,7 +75,6 @@ static void take_command(struct judge *judge, ahci_hba *hba, uint32_t word) {
         port->awaits_clear_busy = true;
     if (cleared & ST) {
         port->awaits_running = true;
-        port->is_resetting = false;
         port->armed = 0;
     }
     port->awaits_receiving = cleared & FRE || (port->awaits_receiving && !(set & FRE));
@@ -184,13 +184,19 @@ static bool is_race(const struct judge *judge, ahci_hba *hba, uint32_t rule, uin
     return false;
 }
 
+/* Whether a place without a register may be written: CAP2, which is read-only here and has no bit, and what is the vendor's (chapter 3: A0h to FFh, and
+   PxVS of the port). */
+static bool is_free(uint32_t offset) {
+    return offset == CAP2 || (offset >= 0xA0 && offset < 0x100) || (offset >= 0x170 && offset < 0x180);
+}
+
 /* Asks the library for each rule of a word that is about to be written, and then those over time. */
 static void judge_word(struct judge *judge, ahci_hba *hba, uint32_t offset, uint32_t word) {
     for (uint32_t rule = 0; rule < AHCI_RULES; rule++) {
         uint32_t broken = 0;
         uint32_t status = ahci_hba_write_breaks(hba, rule, offset, word, &broken);
         if (status == AHCI_NO_SUCH_REGISTER) {
-            if (word)
+            if (word && !is_free(offset))
                 judge_find(judge, JUDGE_NO_REGISTER, "%08" PRIx32 " at %03" PRIx32, word, offset);
             break;
         }

@@ -156,6 +156,11 @@ static bool is_memory(const struct memory *memory, bool writes, uint64_t address
     return true;
 }
 
+bool memory_is_there(const struct memory *memory, bool writes, uint64_t address, size_t count) {
+    bool is_here;
+    return is_memory(memory, writes, address, count, &is_here);
+}
+
 static bool copy_run(const struct memory *memory, bool writes, uint64_t address, uint8_t *bytes, size_t count) {
     while (count) {
         const struct region *it = region_at(memory, writes, address);

@@ -55,6 +55,9 @@ bool memory_write(const struct memory *memory, uint64_t address, const uint8_t *
 /* The same, also by messages. */
 enum moved memory_move(struct memory *memory, bool writes, uint64_t address, uint8_t *bytes, size_t count);
 
+/* Whether all of a run is memory that can be read, or written. */
+bool memory_is_there(const struct memory *memory, bool writes, uint64_t address, size_t count);
+
 /* Whether a run waits for a message, and that it is not wanted any more. */
 bool memory_waits(const struct memory *memory);
 void memory_forget(struct memory *memory);

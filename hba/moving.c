@@ -34,9 +34,10 @@ static void report_unmapped(struct device *device) {
     device->mute = true;
 }
 
-/* The driver has given an address where no memory is. */
-static void find_unmapped(struct device *device) {
-    judge_unmapped(&device->judge, device->state.address, device->state.length);
+/* A run could not be moved. If its address is no memory, the driver's is wrong; else what backs the memory has failed. */
+static void find_unmapped(struct device *device, bool writes) {
+    if (!memory_is_there(device->memory, writes, device->state.address, (size_t)device->state.length))
+        judge_unmapped(&device->judge, device->state.address, device->state.length);
     report_unmapped(device);
 }
 
@@ -78,7 +79,7 @@ static enum run move_in(struct device *device) {
     if (moved == MOVED_LATER)
         return RUN_LATER;
     if (moved == MOVED_NOTHING) {
-        find_unmapped(device);
+        find_unmapped(device, false);
         return RUN_MOVED;
     }
     uint32_t status = ahci_hba_supply(&device->hba, bytes, count);
@@ -108,7 +109,7 @@ static enum run move_out(struct device *device) {
     if (moved == MOVED_ALL)
         device_must("ahci_hba_written", ahci_hba_written(&device->hba));
     else
-        find_unmapped(device);
+        find_unmapped(device, true);
     return RUN_MOVED;
 }
 

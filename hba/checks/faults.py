@@ -7,6 +7,7 @@ SLOW = ["--delay", "30000"]  # microseconds: a command is outstanding for so lon
 FAILS = ["--fail", "3:40"]  # the queued command fails
 NO_QUEUE = ["--cap", "sncq=0"]  # the controller has no queue for it
 SHORT = ["--cap", "s64a=0"]  # it has addresses of 32 bits
+MANAGED = ["--cap", "salp=1"]  # it can initiate power states of the link by itself, of which it has none
 
 FAULTS: Dict[str, Tuple[str, List[str]]] = {
     # starting and stopping the port
@@ -19,7 +20,7 @@ FAULTS: Dict[str, Tuple[str, List[str]]] = {
     # registers
     "list_moved": ("ListMovedWhileStarted", SLOW), "area_moved": ("AreaMovedWhileReceiving", SLOW), "list_unaligned": ("ListUnaligned", []),
     "area_unaligned": ("AreaUnaligned", []), "clo_while_started": ("ClearBusyWhileStarted", SLOW), "comreset_while_started": ("LinkChangedWhileStarted", SLOW),
-    "short_comreset": ("ShortComreset", []), "det_3": ("ReservedLinkState", []), "speed_3": ("SpeedAboveInterface", []), "alpe": ("PowerWithoutCapability", []),
+    "short_comreset": ("ShortComreset", []), "det_3": ("ReservedLinkState", []), "speed_3": ("SpeedAboveInterface", []), "alpe": ("PowerWithoutCapability", []), "alpe_without_partial": ("PowerWithoutCapability", MANAGED),
     "partial": ("PowerWithoutCapability", []), "reserved_bits": ("ReservedBits", []), "byte_access": ("SmallAccess", []),
     "unaligned": ("UnalignedAccess", []), "no_register": ("NoRegister", []), "is_first": ("InterruptNotCleared", []),
     "enable_over_status": ("EnableOverStatus", []), "enable_over_port": ("EnableOverStatus", []),
@@ -35,6 +36,7 @@ FAULTS: Dict[str, Tuple[str, List[str]]] = {
     "fis_reserved_dword": ("ReservedFis", []), "fis_reserved_bits": ("ReservedFis", []), "srst_without_flags": ("ResetFlags", []), "srst_alone": ("ResetAlone", []),
     "srst_cleared_alone": ("ResetAlone", []), "srst_beside_a_command": ("ResetBesideCommands", SLOW),
     "srst_behind_a_read": ("ResetBesideCommands", []), "srst_cleared_behind_a_read": ("ResetBesideCommands", []),
+    "srst_alone_over_a_restart": ("ResetAlone", []),
     # PRDTs, and memory
     "odd_address": ("OddAddress", []), "even_count": ("EvenCount", []), "short_list": ("ListTooShort", []), "no_entries": ("ListTooShort", []), "long_list": ("ListTooLong", []),
     "many_entries": ("ListTooLong", []),
@@ -44,9 +46,10 @@ FAULTS: Dict[str, Tuple[str, List[str]]] = {
     "data_above_reach": ("AddressAboveReach", SHORT), "table_nowhere": ("NoMemory", []), "data_nowhere": ("NoMemory", []),
 }
 
-# drivers that keep the rules: what they do after the queued command has failed, and that command's options; how they issue the FISes of a software reset, and
-# that they write all 1s to PxSERR (section 10.4.2)
+# drivers that keep the rules: what they do after the queued command has failed, and that command's options; how they issue the FISes of a software reset; that
+# they write all 1s to PxSERR (section 10.4.2), write what memory has of the command list to the disk, and issue PACKET with A, which the disk aborts
 RIGHT: Dict[str, List[str]] = {
     "none": [], "none_while_slow": [*SLOW, "--slow-bits", "3"], "log_read": [*FAILS, "--slow-bits", "3"], "log_refused": [*FAILS, "--refuse-log", "--slow-bits", "3"],
     "srst": [*FAILS, "--slow-bits", "3"], "comreset": [*FAILS, "--slow-bits", "3"], "srst_at_once": [*SLOW, "--slow-bits", "3"], "serr_of_ones": [],
+    "srst_over_a_restart": ["--slow-bits", "3"], "list_written": [], "packet": [],
 }
