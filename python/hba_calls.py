@@ -192,10 +192,10 @@ assert command_breaks(Rule.TAG_NOT_SLOT, 3, True, header, fis) and not command_b
 assert command_breaks(Rule.QUEUE_WITHOUT_ACTIVE, 2, False, header, fis)
 # ACS-3 and Serial ATA 3.1: NCQ NON-DATA, SEND and RECEIVE FPDMA QUEUED are queued commands, with a tag and Auxiliary; READ DMA is none. AHCI 1.3.1, 5.5.1: A is of PACKET
 for code in (0x60, 0x61, 0x63, 0x64, 0x65):
-    queued = bytes([0x27, 0x80, code]).ljust(12, b"\0") + bytes([2 << 3]).ljust(8, b"\0")
-    assert command_breaks(Rule.QUEUE_WITHOUT_ACTIVE, 2, False, header, queued) and not command_breaks(Rule.ACTIVE_WITHOUT_QUEUE, 2, True, header, queued)
-    assert command_breaks(Rule.TAG_NOT_SLOT, 3, True, header, queued) and not command_breaks(Rule.TAG_NOT_SLOT, 2, True, header, queued)
-    assert not command_breaks(Rule.RESERVED_FIS, 2, True, header, queued[:16] + b"\1\0\0\0")
+    ncq = bytes([0x27, 0x80, code]).ljust(12, b"\0") + bytes([2 << 3]).ljust(8, b"\0")
+    assert command_breaks(Rule.QUEUE_WITHOUT_ACTIVE, 2, False, header, ncq) and not command_breaks(Rule.ACTIVE_WITHOUT_QUEUE, 2, True, header, ncq)
+    assert command_breaks(Rule.TAG_NOT_SLOT, 3, True, header, ncq) and not command_breaks(Rule.TAG_NOT_SLOT, 2, True, header, ncq)
+    assert not command_breaks(Rule.RESERVED_FIS, 2, True, header, ncq[:16] + b"\1\0\0\0")
 unqueued = bytes([0x27, 0x80, 0xC8]).ljust(12, b"\0") + bytes([1]).ljust(8, b"\0")
 assert command_breaks(Rule.ACTIVE_WITHOUT_QUEUE, 2, True, header, unqueued) and command_breaks(Rule.RESERVED_FIS, 2, False, header, unqueued[:16] + b"\1\0\0\0")
 packet = struct.pack("<HHIQ16x", 1 << 5 | 5, 0, 0, TABLES)
