@@ -50,12 +50,17 @@ void judge_fetch(struct judge *judge, uint32_t slot) {
 
 /* ---- the header ---- */
 
-/* The rules that are asked of a header, since the controller reads no FIS that a header with such a fault is about; some look at the FIS as well. */
+#define FLAG_A 0x20 /* of a header's byte 0 */
+#define FLAG_W 0x40
+#define FLAG_B 0x02 /* of byte 1 */
+
+/* The rules that are asked of a header, since the controller reads no FIS that a header with such a fault is about. With these flags the FIS matters, too. */
 static const struct {
     uint32_t rule;
-    bool asks_fis;
+    uint8_t flags[2];
 } header_rules[] = {
-    {AHCI_RULE_FIS_LENGTH, true}, {AHCI_RULE_ATAPI_FLAG, true}, {AHCI_RULE_RESERVED_HEADER, false}, {AHCI_RULE_TABLE_UNALIGNED, false}, {AHCI_RULE_BIST_FLAG, true},
+    {AHCI_RULE_FIS_LENGTH, {0, FLAG_B}}, {AHCI_RULE_ATAPI_FLAG, {FLAG_A, 0}}, {AHCI_RULE_RESERVED_HEADER, {0, 0}},
+    {AHCI_RULE_TABLE_UNALIGNED, {0, 0}}, {AHCI_RULE_BIST_FLAG, {0, FLAG_B}},
 };
 #define HEADER_RULES (sizeof header_rules / sizeof *header_rules)
 
@@ -89,10 +94,10 @@ static uint64_t table_of(ahci_hba *hba, const struct judged *judged) {
 
 /* W of a header: the data are read from memory. */
 static bool reads_memory(const struct judged *judged) {
-    return judged->header[0] & 0x40;
+    return judged->header[0] & FLAG_W;
 }
 
-/* Judges the header of a slot. What looks at the FIS is not asked where its memory can't be read. */
+/* Judges the header of a slot. A rule for which the FIS matters is not asked where its memory can't be read. */
 static void judge_header(struct judge *judge, ahci_hba *hba, uint32_t slot) {
     const struct judged *judged = &judge->slots[slot];
     uint8_t fis[sizeof judged->fis] = {0};
@@ -100,7 +105,8 @@ static void judge_header(struct judge *judge, ahci_hba *hba, uint32_t slot) {
     bool has_fis = memory_read(judge->memory, table, fis, sizeof fis);
     for (size_t i = 0; i < HEADER_RULES; i++) {
         uint32_t broken = 0, rule = header_rules[i].rule;
-        if (has_fis || !header_rules[i].asks_fis)
+        const uint8_t *flags = header_rules[i].flags, *header = judged->header;
+        if (has_fis || !(header[0] & flags[0] || header[1] & flags[1]))
             ahci_command_breaks(rule, slot, 0, judged->header, sizeof judged->header, fis, sizeof fis, &broken);
         if (broken)
             judge_find(judge, rule, "slot %" PRIu32 ", header %02x %02x", slot, judged->header[0], judged->header[1]);
