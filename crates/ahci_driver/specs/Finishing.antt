@@ -1,13 +1,24 @@
 -- What a worker does with the port until its request is answered: some pumps, and then it collects.
-use Rattle.std.specs.Prelude.{◌≡◌, ℕ, List, Some}
+use Rattle.std.specs.Prelude.{◌≡◌, ℕ, true, List, Some}
+use Rattle.ncq_journal.specs.Halted.{halted}
 use Rattle.ncq_journal.specs.declared.outcome.Outcome.{Outcome}
+use Rattle.ahci_port.specs.declared.fault.CollectFault.TheVariants.{Stranger}
 use Rattle.ahci_port.specs.declared.step.DeviceStep.{DeviceStep}
 use Rattle.ahci_port.specs.PortView.{PortView}
-use Rattle.ahci_port.specs.Steps.{IsCollected}
+use Rattle.ahci_port.specs.Steps.{IsCollected, LacksRoom}
 use Rattle.ahci_driver.specs.Pumping.{HasAsked, IsPumped}
 use Rattle.ahci_driver.specs.Settled.{answered_as}
 use Rattle.ahci_driver.specs.Received.{Received}
+use Rattle.ahci_driver.specs.Tickets.{TicketView, ticket_refusal}
+use Rattle.ahci_driver.specs.declared.unfinished.Unfinished.{Unfinished}
+use Rattle.ahci_driver.specs.declared.unfinished.Unfinished.TheVariants as unfinished
 use Rattle.ahci_driver.specs.declared.pumped.Pumped.{Pumped}
+
+-- why the request of a ticket isn't finished on a port that got on: its slot has no such request; or the port is halted, and has no room to recover
+abbrev pub IsUnfinished : TicketView → PortView → Unfinished → Type 0
+IsUnfinished ticket port unfinished.Stranger = ticket_refusal port ticket ≡ Some Stranger
+IsUnfinished ticket port unfinished.OutOfMemory = (halted port.past ≡ true) × LacksRoom port
+IsUnfinished ticket port unfinished.NotYet = Unit {0}
 
 module _ {C : Type 0} (gives : C → ℕ → ℕ → DeviceStep → C → Type 0) where
   -- a port got on by pumps, one after another; whenever the device took a step, the chooser was asked for it

@@ -1,7 +1,7 @@
 ghost use Rattle.std.specs.Prelude.{◌≡◌, IfOk, IfErr, OnErr, length};
 ghost use Rattle.ahci_table.specs.Fit.{IsFit};
 ghost use Rattle.ahci_port.specs.Slots.{bytes_in};
-ghost use Rattle.ahci_driver.specs.{Finishing.{HasFinished, HasGotOn}, Tickets.{has_length}};
+ghost use Rattle.ahci_driver.specs.{Finishing.{HasFinished, HasGotOn, IsUnfinished}, Tickets.{has_length}};
 
 use crate::chooser::Chooser;
 use crate::collect::{Answered, take_locked};
@@ -33,6 +33,7 @@ pub(crate) fn finish_locked<A: Allocator, C: Chooser>(
     ensures length { IfOk result (λ a. has_length a.reply.outcome a.window (length a.buffer.items)) }
     ensures buffer { IfOk result (λ a. a.buffer.items ≡ ticket.buffer) }
     ensures same { IfErr result (λ e. e.0 ≡ ticket) }
+    ensures fault { IfErr result (λ e. IsUnfinished ticket port.new e.1) }
     ensures err { OnErr result (HasGotOn C.gives chooser.old chooser.new port.old port.new) }
 {
     for _ in 0..MOST_PUMPS {
