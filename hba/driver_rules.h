@@ -1,4 +1,4 @@
-/* The rules that the judge knows: those of the library (ahci_rule), and those that one access or command alone doesn't show. */
+/* The rules that the judge knows: those of the library (ahci_rule), and the program's own. */
 #ifndef AHCI_HBA_DRIVER_RULES_H
 #define AHCI_HBA_DRIVER_RULES_H
 

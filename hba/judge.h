@@ -48,6 +48,7 @@ struct judged_port {
     bool has_asked_log;         /* after a failed queued command */
     bool was_reset;             /* the same, by SRST or COMRESET */
     bool is_resetting;          /* SRST was set by a FIS, and not cleared */
+    bool was_exchanged;         /* PxSERR.DIAG.X, at the last access */
 };
 
 /* A rule that was broken in a stretch. */

@@ -11,6 +11,7 @@
 #define CR 0x8000u
 #define DET 0xFu
 #define CAP2 0x24u
+#define EXCHANGED 0x04000000u /* DIAG.X of PxSERR */
 #define MILLISECOND UINT64_C(1000000)
 
 static uint64_t now(void) {
@@ -27,6 +28,15 @@ static struct judged_port port_after_reset(const struct judged_port *before) {
 void judge_power_on(struct judge *judge) {
     judge->port = port_after_reset(&(struct judged_port){.is_master = judge->port.is_master});
     recovery_power_on(judge);
+}
+
+/* A device whose link was reset or lost is in no software reset any more. */
+static void follow_link(struct judge *judge, ahci_hba *hba) {
+    struct judged_port *port = &judge->port;
+    bool is_exchanged = judge_peek(hba, AHCI_REG_PXSERR) & EXCHANGED;
+    if ((judge_peek(hba, AHCI_REG_PXSSTS) & DET) != 3 || (is_exchanged && !port->was_exchanged))
+        port->is_resetting = false;
+    port->was_exchanged = is_exchanged;
 }
 
 /* ---- each register ---- */
@@ -228,6 +238,7 @@ void judge_write(struct judge *judge, ahci_hba *hba, uint32_t offset, uint32_t b
     if (!judge->on)
         return;
     judge->writes++;
+    follow_link(judge, hba);
     if (offset % bytes) {
         judge_find(judge, JUDGE_UNALIGNED_ACCESS, "%" PRIu32 " bytes at %03" PRIx32, bytes, offset);
         return;
@@ -283,6 +294,7 @@ static void see_word(struct judge *judge, ahci_hba *hba, uint32_t offset, uint32
 void judge_read(struct judge *judge, ahci_hba *hba, uint32_t offset, uint32_t bytes, uint64_t value) {
     if (!judge->on || offset % bytes)
         return;
+    follow_link(judge, hba);
     if (bytes < 4) {
         uint32_t mask = mask_of(offset, bytes);
         see_word(judge, hba, offset & ~3u, mask, (uint32_t)value << 8 * (offset & 3u) & mask);

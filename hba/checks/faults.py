@@ -20,7 +20,8 @@ FAULTS: Dict[str, Tuple[str, List[str]]] = {
     # registers
     "list_moved": ("ListMovedWhileStarted", SLOW), "area_moved": ("AreaMovedWhileReceiving", SLOW), "list_unaligned": ("ListUnaligned", []),
     "area_unaligned": ("AreaUnaligned", []), "clo_while_started": ("ClearBusyWhileStarted", SLOW), "comreset_while_started": ("LinkChangedWhileStarted", SLOW),
-    "short_comreset": ("ShortComreset", []), "det_3": ("ReservedLinkState", []), "speed_3": ("SpeedAboveInterface", []), "alpe": ("PowerWithoutCapability", []), "alpe_without_partial": ("PowerWithoutCapability", MANAGED),
+    "short_comreset": ("ShortComreset", []), "det_3": ("ReservedLinkState", []), "speed_3": ("SpeedAboveInterface", []), "alpe": ("PowerWithoutCapability", []),
+    "alpe_without_partial": ("PowerWithoutCapability", MANAGED),
     "partial": ("PowerWithoutCapability", []), "reserved_bits": ("ReservedBits", []), "byte_access": ("SmallAccess", []),
     "unaligned": ("UnalignedAccess", []), "no_register": ("NoRegister", []), "is_first": ("InterruptNotCleared", []),
     "enable_over_status": ("EnableOverStatus", []), "enable_over_port": ("EnableOverStatus", []),
@@ -51,5 +52,5 @@ FAULTS: Dict[str, Tuple[str, List[str]]] = {
 RIGHT: Dict[str, List[str]] = {
     "none": [], "none_while_slow": [*SLOW, "--slow-bits", "3"], "log_read": [*FAILS, "--slow-bits", "3"], "log_refused": [*FAILS, "--refuse-log", "--slow-bits", "3"],
     "srst": [*FAILS, "--slow-bits", "3"], "comreset": [*FAILS, "--slow-bits", "3"], "srst_at_once": [*SLOW, "--slow-bits", "3"], "serr_of_ones": [],
-    "srst_over_a_restart": ["--slow-bits", "3"], "list_written": [], "packet": [],
+    "srst_over_a_restart": ["--slow-bits", "3"], "srst_then_offline": ["--slow-bits", "3"], "list_written": [], "packet": [],
 }
